@@ -1,0 +1,12 @@
+use mathlib.Core.List.{List, _∷_, map}
+use Prim.Native.Nat.{ℕ}
+use lib.ListN.{length}
+use Rattle.chain.specs.Chain.{rest, Cut}
+use Rattle.chain.proofs.Ranks.{Past}
+use Rattle.chain.proofs.find_place.Given as given
+
+abbrev pub Inv-loop-at : given.InvT-loop-at
+Inv-loop-at g l = (front : List ℕ) × (back : List ℕ) × Cut (l .head ∷ map (g .R·Link .link) (l .rows)) (l .before) (l .at) front back × Past (map (g .R·Ranked .key) (l .rows)) (l .n) front
+
+abbrev pub μ-loop-at : given.MeasureT-loop-at
+μ-loop-at g l = length (rest (l .head ∷ map (g .R·Link .link) (l .rows)) (l .at))

@@ -1,0 +1,4 @@
+pub mod Times
+pub mod Chain
+pub mod Lists
+pub mod Falling

@@ -1,0 +1,163 @@
+// The calls of a started kernel.
+ghost use mathlib.Core.Path.{_≡_};
+ghost use lib.IntN.{pos};
+ghost use Rattle.std.specs.declared.result.Result.the-variants.{Ok as Fine, Err as Refused};
+ghost use Rattle.tables.specs.Running.{running, Greatest};
+ghost use Rattle.kernel.specs.declared.calls.Call.the-variants.{Claim as claim-call, Drop as drop-call, Send as send-call, Wait as wait-call};
+ghost use Rattle.kernel.specs.Steps.{Steps};
+ghost use Rattle.kernel.specs.View.{state, left};
+use super::calls::Answer;
+use super::calls::Call;
+use super::calls::Refusal;
+use super::phases::Started;
+use super::phases::Stopped;
+use tables::store::Tables;
+use tasks::rows::Condition;
+
+// A task as a sender.
+fn as_sender(t: u8) -> i32
+    ensures { λ r. ⌜ r ≡ pos t ⌝ }
+{
+    t as i32
+}
+
+impl Started {
+    // The runnable task of greatest priority, or 0 where no task is runnable.
+    pub fn running(&self) -> u8
+        ensures is { λ r. ⌜ r ≡ running (state (now (self .entry))) ⌝ }
+        ensures greatest { λ r. ⌜ Greatest (state (now (self .entry))) r ⌝ }
+    {
+        self.tables.running()
+    }
+
+    fn refused(&self, refusal: Refusal) -> Answer
+        ensures { λ r. ⌜ r ≡ record { outcome = Refused refusal; running = running (state (now (self .entry))) } ⌝ }
+    {
+        Answer {
+            outcome: Err(refusal),
+            running: self.tables.running(),
+        }
+    }
+
+    fn done(&self, value: u32) -> Answer
+        ensures { λ r. ⌜ r ≡ record { outcome = Fine value; running = running (state (now (self .entry))) } ⌝ }
+    {
+        Answer {
+            outcome: Ok(value),
+            running: self.tables.running(),
+        }
+    }
+
+    // The running task gets the first free packet.
+    pub fn claim(&mut self) -> Answer
+        ensures { λ r. ⌜ Steps (state (now (self .entry))) claim-call r (state (now (self .exit))) ⌝ }
+    {
+        if !self.task_runs() {
+            return self.refused(Refusal::NoTaskRunning);
+        }
+        if !self.runner_ready() {
+            return self.refused(Refusal::RunnerNotReady);
+        }
+        if !self.tables.any_free() {
+            return self.refused(Refusal::NoPacketFree);
+        }
+        let n = self.tables.first_free();
+        self.tables.take_free(self.tables.running());
+        self.done(n as u32)
+    }
+
+    // The running task frees a packet that is in its hands.
+    pub fn drop_packet(&mut self, packet: u32) -> Answer
+        ensures { λ r. ⌜ Steps (state (now (self .entry))) (drop-call packet) r (state (now (self .exit))) ⌝ }
+    {
+        if !self.task_runs() {
+            return self.refused(Refusal::NoTaskRunning);
+        }
+        if !self.runner_ready() {
+            return self.refused(Refusal::RunnerNotReady);
+        }
+        if packet < 1 || packet > 64 {
+            return self.refused(Refusal::NoSuchPacket);
+        }
+        let n = packet as u8;
+        if !self.in_hands(n) {
+            return self.refused(Refusal::NotInHands);
+        }
+        self.tables.put_free(n);
+        self.done(0)
+    }
+
+    // The running task sends a packet that is in its hands: to a task, or to the unit of the opposite sign. No unit is there yet.
+    pub fn send(&mut self, address: i32, packet: u32, kind: u32, first: u32, second: u32) -> Answer
+        ensures { λ r. ⌜ Steps (state (now (self .entry))) (send-call address packet kind first second) r (state (now (self .exit))) ⌝ }
+    {
+        if !self.task_runs() {
+            return self.refused(Refusal::NoTaskRunning);
+        }
+        if !self.runner_ready() {
+            return self.refused(Refusal::RunnerNotReady);
+        }
+        if packet < 1 || packet > 64 {
+            return self.refused(Refusal::NoSuchPacket);
+        }
+        let n = packet as u8;
+        if !self.in_hands(n) {
+            return self.refused(Refusal::NotInHands);
+        }
+        if address < 0 {
+            return self.refused(Refusal::NoSuchUnit);
+        }
+        let to = address as u32;
+        if !self.task_known(to) {
+            return self.refused(Refusal::NoSuchTask);
+        }
+        let sender = as_sender(self.tables.running());
+        self.tables
+            .to_queue(n, to as u8, sender, kind, first, second);
+        self.done(0)
+    }
+
+    // The running task waits: it takes the first packet on its queue, or else is waiting.
+    pub fn wait(&mut self) -> Answer
+        ensures { λ r. ⌜ Steps (state (now (self .entry))) wait-call r (state (now (self .exit))) ⌝ }
+    {
+        if !self.task_runs() {
+            return self.refused(Refusal::NoTaskRunning);
+        }
+        let t = self.tables.running();
+        if !self.tables.any_queued(t) {
+            self.tables.set_condition(t, Condition::Waiting);
+            return self.done(0);
+        }
+        let n = self.tables.first_queued(t);
+        self.tables.take_queued(t);
+        self.tables.set_condition(t, Condition::Ready);
+        self.done(n as u32)
+    }
+
+    // Any call.
+    pub fn call(&mut self, call: Call) -> Answer
+        ensures { λ r. ⌜ Steps (state (now (self .entry))) call r (state (now (self .exit))) ⌝ }
+    {
+        match call {
+            Call::Claim => self.claim(),
+            Call::Drop { packet } => self.drop_packet(packet),
+            Call::Send {
+                address,
+                packet,
+                kind,
+                first,
+                second,
+            } => self.send(address, packet, kind, first, second),
+            Call::Wait => self.wait(),
+        }
+    }
+
+    // Calls end.
+    pub fn stop(self) -> Stopped
+        ensures { λ r. ⌜ left r ≡ state self ⌝ }
+    {
+        let Started { tables } = self;
+        Stopped { tables }
+    }
+}

@@ -1,0 +1,6 @@
+pub mod Decoded
+pub mod Parsed
+pub mod Played
+pub mod Printed
+pub mod Encoded
+pub mod Sample

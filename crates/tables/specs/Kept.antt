@@ -1,0 +1,18 @@
+-- What every kernel keeps at all times.
+use mathlib.Core.Path.{_≡_}
+use mathlib.Core.Bool.{true}
+use mathlib.Core.List.{map}
+use Prim.Native.Nat.{ℕ}
+use Rattle.chain.specs.Times.{times}
+use Rattle.packets.specs.Places.{stands, place-at}
+use Rattle.packets.specs.View.{list}
+use Rattle.tables.specs.State.{State, packet-part, task, used}
+use Rattle.tasks.specs.Use.{rank, in-use}
+
+pub record Kept (s : State) : Type 0 where
+  -- no two tasks share a priority
+  pub priorities : (t u : ℕ) → used s t ≡ true → used s u ≡ true → rank (task s t) ≡ rank (task s u) → t ≡ u
+  -- the order names every task in use once, and no other number
+  pub ordered : (t : ℕ) → times t (s .order) ≡ in-use (task s t)
+  -- a free packet stands once on the free list, a queued one once on that queue, and on no other list; any other packet stands on none
+  pub placed : (i n : ℕ) → times n (list (packet-part s) i) ≡ stands (place-at (map (λ p. p .place) (s .packets)) n) i

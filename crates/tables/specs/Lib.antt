@@ -1,0 +1,5 @@
+pub mod State
+pub mod Running
+pub mod Moves
+pub mod View
+pub mod Kept

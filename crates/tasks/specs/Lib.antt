@@ -1,0 +1,3 @@
+pub mod Use
+pub mod View
+pub mod Priorities
