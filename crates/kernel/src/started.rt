@@ -3,6 +3,7 @@ ghost use mathlib.Core.Path.{_≡_};
 ghost use lib.IntN.{pos};
 ghost use Rattle.std.specs.declared.result.Result.the-variants.{Ok as Fine, Err as Refused};
 ghost use Rattle.tables.specs.Running.{running, Greatest};
+ghost use Rattle.tables.specs.Kept.{Kept};
 ghost use Rattle.kernel.specs.declared.calls.Call.the-variants.{Claim as claim-call, Drop as drop-call, Send as send-call, Wait as wait-call};
 ghost use Rattle.kernel.specs.Steps.{Steps};
 ghost use Rattle.kernel.specs.View.{state, left};
@@ -26,12 +27,15 @@ impl Started {
     pub fn running(&self) -> u8
         ensures is { λ r. ⌜ r ≡ running (state (now (self .entry))) ⌝ }
         ensures greatest { λ r. ⌜ Greatest (state (now (self .entry))) r ⌝ }
+        ensures kept { λ _. ⌜ Kept (state (now (self .entry))) ⌝ }
     {
         self.tables.running()
     }
 
     fn refused(&self, refusal: Refusal) -> Answer
-        ensures { λ r. ⌜ r ≡ record { outcome = Refused refusal; running = running (state (now (self .entry))) } ⌝ }
+        ensures is { λ r. ⌜ r ≡ record { outcome = Refused refusal; running = running (state (now (self .entry))) } ⌝ }
+        ensures greatest { λ r. ⌜ Greatest (state (now (self .entry))) (r .running) ⌝ }
+        ensures kept { λ _. ⌜ Kept (state (now (self .entry))) ⌝ }
     {
         Answer {
             outcome: Err(refusal),
@@ -40,7 +44,9 @@ impl Started {
     }
 
     fn done(&self, value: u32) -> Answer
-        ensures { λ r. ⌜ r ≡ record { outcome = Fine value; running = running (state (now (self .entry))) } ⌝ }
+        ensures is { λ r. ⌜ r ≡ record { outcome = Fine value; running = running (state (now (self .entry))) } ⌝ }
+        ensures greatest { λ r. ⌜ Greatest (state (now (self .entry))) (r .running) ⌝ }
+        ensures kept { λ _. ⌜ Kept (state (now (self .entry))) ⌝ }
     {
         Answer {
             outcome: Ok(value),
@@ -50,13 +56,12 @@ impl Started {
 
     // The running task gets the first free packet.
     pub fn claim(&mut self) -> Answer
-        ensures { λ r. ⌜ Steps (state (now (self .entry))) claim-call r (state (now (self .exit))) ⌝ }
+        ensures step { λ r. ⌜ Steps (state (now (self .entry))) claim-call r (state (now (self .exit))) ⌝ }
+        ensures greatest { λ r. ⌜ Greatest (state (now (self .exit))) (r .running) ⌝ }
+        ensures kept { λ _. ⌜ Kept (state (now (self .exit))) ⌝ }
     {
-        if !self.task_runs() {
-            return self.refused(Refusal::NoTaskRunning);
-        }
-        if !self.runner_ready() {
-            return self.refused(Refusal::RunnerNotReady);
+        if let Some(refusal) = self.no_caller() {
+            return self.refused(refusal);
         }
         if !self.tables.any_free() {
             return self.refused(Refusal::NoPacketFree);
@@ -68,41 +73,25 @@ impl Started {
 
     // The running task frees a packet that is in its hands.
     pub fn drop_packet(&mut self, packet: u32) -> Answer
-        ensures { λ r. ⌜ Steps (state (now (self .entry))) (drop-call packet) r (state (now (self .exit))) ⌝ }
+        ensures step { λ r. ⌜ Steps (state (now (self .entry))) (drop-call packet) r (state (now (self .exit))) ⌝ }
+        ensures greatest { λ r. ⌜ Greatest (state (now (self .exit))) (r .running) ⌝ }
+        ensures kept { λ _. ⌜ Kept (state (now (self .exit))) ⌝ }
     {
-        if !self.task_runs() {
-            return self.refused(Refusal::NoTaskRunning);
+        if let Some(refusal) = self.no_packet(packet) {
+            return self.refused(refusal);
         }
-        if !self.runner_ready() {
-            return self.refused(Refusal::RunnerNotReady);
-        }
-        if packet < 1 || packet > 64 {
-            return self.refused(Refusal::NoSuchPacket);
-        }
-        let n = packet as u8;
-        if !self.in_hands(n) {
-            return self.refused(Refusal::NotInHands);
-        }
-        self.tables.put_free(n);
+        self.tables.put_free(packet as u8);
         self.done(0)
     }
 
     // The running task sends a packet that is in its hands: to a task, or to the unit of the opposite sign. No unit is there yet.
     pub fn send(&mut self, address: i32, packet: u32, kind: u32, first: u32, second: u32) -> Answer
-        ensures { λ r. ⌜ Steps (state (now (self .entry))) (send-call address packet kind first second) r (state (now (self .exit))) ⌝ }
+        ensures step { λ r. ⌜ Steps (state (now (self .entry))) (send-call address packet kind first second) r (state (now (self .exit))) ⌝ }
+        ensures greatest { λ r. ⌜ Greatest (state (now (self .exit))) (r .running) ⌝ }
+        ensures kept { λ _. ⌜ Kept (state (now (self .exit))) ⌝ }
     {
-        if !self.task_runs() {
-            return self.refused(Refusal::NoTaskRunning);
-        }
-        if !self.runner_ready() {
-            return self.refused(Refusal::RunnerNotReady);
-        }
-        if packet < 1 || packet > 64 {
-            return self.refused(Refusal::NoSuchPacket);
-        }
-        let n = packet as u8;
-        if !self.in_hands(n) {
-            return self.refused(Refusal::NotInHands);
+        if let Some(refusal) = self.no_packet(packet) {
+            return self.refused(refusal);
         }
         if address < 0 {
             return self.refused(Refusal::NoSuchUnit);
@@ -113,13 +102,15 @@ impl Started {
         }
         let sender = as_sender(self.tables.running());
         self.tables
-            .to_queue(n, to as u8, sender, kind, first, second);
+            .to_queue(packet as u8, to as u8, sender, kind, first, second);
         self.done(0)
     }
 
     // The running task waits: it takes the first packet on its queue, or else is waiting.
     pub fn wait(&mut self) -> Answer
-        ensures { λ r. ⌜ Steps (state (now (self .entry))) wait-call r (state (now (self .exit))) ⌝ }
+        ensures step { λ r. ⌜ Steps (state (now (self .entry))) wait-call r (state (now (self .exit))) ⌝ }
+        ensures greatest { λ r. ⌜ Greatest (state (now (self .exit))) (r .running) ⌝ }
+        ensures kept { λ _. ⌜ Kept (state (now (self .exit))) ⌝ }
     {
         if !self.task_runs() {
             return self.refused(Refusal::NoTaskRunning);
@@ -137,7 +128,9 @@ impl Started {
 
     // Any call.
     pub fn call(&mut self, call: Call) -> Answer
-        ensures { λ r. ⌜ Steps (state (now (self .entry))) call r (state (now (self .exit))) ⌝ }
+        ensures step { λ r. ⌜ Steps (state (now (self .entry))) call r (state (now (self .exit))) ⌝ }
+        ensures greatest { λ r. ⌜ Greatest (state (now (self .exit))) (r .running) ⌝ }
+        ensures kept { λ _. ⌜ Kept (state (now (self .exit))) ⌝ }
     {
         match call {
             Call::Claim => self.claim(),

@@ -19,9 +19,9 @@ use Rattle.packets.specs.declared.rows.Place.{Place}
 use Rattle.packets.specs.declared.rows.Place.the-variants.{Free, Hands, Queue}
 use Rattle.packets.specs.declared.rows.Packet.{Packet}
 use Rattle.packets.specs.declared.rows.PacketRow.{PacketRow}
-use Rattle.packets.specs.Places.{stands, place-at, handed}
+use Rattle.packets.specs.Places.{stands, place-at, handed, blank}
 use Rattle.packets.specs.declared.table.PacketTable.{PacketTable}
-use Rattle.packets.specs.View.{View, view, blank, packet, list, filled, took-first, put-last}
+use Rattle.packets.specs.View.{View, view, packet, list, filled, took-first, put-last}
 
 -- ---- places
 

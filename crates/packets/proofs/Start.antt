@@ -12,8 +12,8 @@ use Rattle.chain.specs.Times.{times}
 use Rattle.chain.proofs.Lists.{none-end, none-list}
 use Rattle.packets.specs.declared.rows.Place.{Place}
 use Rattle.packets.specs.declared.rows.PacketRow.{PacketRow}
-use Rattle.packets.specs.Places.{stands, place-at, handed}
-use Rattle.packets.specs.View.{View, blank, packet, put-last, unplaced, fresh}
+use Rattle.packets.specs.Places.{stands, place-at, handed, blank}
+use Rattle.packets.specs.View.{View, packet, put-last, unplaced, fresh}
 use Rattle.packets.proofs.Moves.{shape, link, on, packet-is}
 
 -- the first i packets are free, the others nowhere

@@ -1,9 +1,11 @@
--- On which list a packet of each place stands. List 0 has the free packets, and list t the queue of task t.
+-- Where packets are, and on which list a packet of each place stands. List 0 has the free packets, and list t the queue of task t.
 use mathlib.Core.Bool.{Bool, true, false}
 use mathlib.Core.List.{List, _∷_}
 use Prim.Native.Nat.{ℕ, zero, suc}
+use lib.IntN.{pos}
 use lib.ListN.{getD}
 use Rattle.chain.specs.Times.{hit}
+use Rattle.packets.specs.declared.rows.Packet.{Packet}
 use Rattle.packets.specs.declared.rows.Place.{Place}
 use Rattle.packets.specs.declared.rows.Place.the-variants.{Free, Hands, Queue}
 
@@ -24,3 +26,7 @@ abbrev pub handed : Place → Bool
 handed Free = false
 handed (Hands k) = true
 handed (Queue k) = false
+
+-- A packet of that place, with every other field 0.
+abbrev pub blank : Place → Packet
+blank p = record { place = p; sender = pos 0; kind = 0; first = 0; second = 0 }

@@ -3,13 +3,13 @@ use mathlib.Core.Bool.{Bool, true, false, cond, _&&_}
 use mathlib.Core.List.{List, [], _∷_, _++_, map}
 use Prim.Native.Nat.{ℕ, zero, suc, _+_, _-_}
 use lib.Dec.{leb}
-use lib.IntN.{pos}
 use lib.ListN.{getD, set, replicate}
 use Rattle.chain.specs.Chain.{first, tail}
 use Rattle.chain.specs.Lists.{lists}
 use Rattle.packets.specs.declared.rows.Place.{Place}
 use Rattle.packets.specs.declared.rows.Packet.{Packet}
 use Rattle.packets.specs.declared.table.PacketTable.{PacketTable}
+use Rattle.packets.specs.Places.{blank}
 
 pub record View : Type 0 where
   pub packets : List Packet
@@ -17,10 +17,6 @@ pub record View : Type 0 where
 
 abbrev pub view : PacketTable → View
 view t = record { packets = map (λ r. r .packet) (t .rows); lists = lists (t .heads) (map (λ r. r .next) (t .rows)) }
-
--- A packet of that place, with every other field 0.
-abbrev pub blank : Place → Packet
-blank p = record { place = p; sender = pos 0; kind = 0; first = 0; second = 0 }
 
 -- Packet n; a number that no packet has reads as a free one with every field 0.
 abbrev pub packet : View → ℕ → Packet

@@ -6,8 +6,8 @@ ghost use lib.Dec.{eqb};
 ghost use lib.ListN.{length, getD};
 ghost use Rattle.chain.specs.Chain.{Row, first};
 ghost use Rattle.packets.specs.declared.rows.Place.{Place};
-ghost use Rattle.packets.specs.Places.{stands, handed};
-ghost use Rattle.packets.specs.View.{view, blank as blank-at, packet, list, filled, unplaced, fresh, took-first, put-last};
+ghost use Rattle.packets.specs.Places.{stands, handed, blank};
+ghost use Rattle.packets.specs.View.{view, packet, list, filled, unplaced, fresh, took-first, put-last};
 
 pub mod rows;
 pub mod table;
@@ -17,19 +17,6 @@ use rows::PacketLink;
 use rows::PacketRow;
 use rows::Place;
 use table::PacketTable;
-
-// A packet of that place with every other field 0.
-fn blank(place: Place) -> Packet
-    ensures { λ r. ⌜ r ≡ blank-at place ⌝ }
-{
-    Packet {
-        place,
-        sender: 0,
-        kind: 0,
-        first: 0,
-        second: 0,
-    }
-}
 
 impl PacketTable {
     // No packet is on a list yet.
@@ -56,7 +43,7 @@ impl PacketTable {
         ensures { λ _. ⌜ view (now (self .exit)) ≡ fresh ⌝ }
     {
         for n in 1..65 {
-            self.put_last(0, n, blank(Place::Free));
+            self.put_last(0, n, Packet::blank(Place::Free));
         }
     }
 
@@ -71,7 +58,7 @@ impl PacketTable {
 
     fn read(&self, n: u8) -> Packet
         requires { ⌜ Row 64 n ⌝ }
-        ensures { λ r. ⌜ r ≡ getD (view (now (self .entry)) .packets) (n - 1) (blank-at Place.Free) ⌝ }
+        ensures { λ r. ⌜ r ≡ getD (view (now (self .entry)) .packets) (n - 1) (blank Place.Free) ⌝ }
     {
         self.rows[(n - 1) as usize].packet
     }
@@ -83,7 +70,7 @@ impl PacketTable {
         if n >= 1 && n <= 64 {
             self.read(n)
         } else {
-            blank(Place::Free)
+            Packet::blank(Place::Free)
         }
     }
 

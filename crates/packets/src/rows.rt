@@ -1,4 +1,6 @@
 // A packet, and its row in the table.
+ghost use mathlib.Core.Path.{_≡_};
+ghost use Rattle.packets.specs.Places.{blank};
 use chain::Link;
 
 // Where a packet is; tasks go by their numbers.
@@ -17,6 +19,21 @@ pub struct Packet {
     pub kind: u32,
     pub first: u32,
     pub second: u32,
+}
+
+impl Packet {
+    // A packet of that place with every other field 0.
+    pub fn blank(place: Place) -> Packet
+        ensures { λ r. ⌜ r ≡ blank place ⌝ }
+    {
+        Packet {
+            place,
+            sender: 0,
+            kind: 0,
+            first: 0,
+            second: 0,
+        }
+    }
 }
 
 // The packet, and the number of the next one on its list, or 0.

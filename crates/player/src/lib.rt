@@ -23,7 +23,7 @@ use scripts::parse;
 use std::alloc::AllocError;
 use std::alloc::Global;
 
-// The answers of the two creates are let go: `opening` is the state that they leave, refused or not.
+// Neither create is refused: `sample_session_prints` computes that.
 fn furnish() -> Started
     ensures { λ r. ⌜ state r ≡ opening ⌝ }
 {
@@ -66,7 +66,7 @@ pub fn scripts_read_back() -> u8
     0
 }
 
-// The text of the sample session, by computation on its bytes.
+// The sample session, by computation on its bytes.
 pub fn sample_session_prints() -> u8
     ensures { λ _. ⌜ Sample ⌝ }
 {

@@ -126,6 +126,7 @@ module _ (tb : Tables) where
       record {
         priorities = λ t u a b e. let x = some-task t a in let y = some-task u b in order .distinct t u (x .0) (y .0) (x .1) (y .1) (sym (ap rank (x .1)) ∙ e ∙ ap rank (y .1));
         ordered = order .each-once;
+        falling = order .falling;
         placed = table-placed (tb .packets);
       }
 

@@ -7,7 +7,8 @@ use Rattle.std.specs.declared.option.Option.the-variants.{None, Some}
 use Rattle.packets.specs.declared.rows.Packet.{Packet}
 use Rattle.packets.specs.declared.rows.Place.{Place}
 use Rattle.chain.specs.Chain.{first}
-use Rattle.packets.specs.View.{View as PacketView, blank, took-first, put-last, fresh as fresh-packets}
+use Rattle.packets.specs.Places.{blank}
+use Rattle.packets.specs.View.{View as PacketView, took-first, put-last, fresh as fresh-packets}
 use Rattle.tasks.specs.declared.rows.Condition.{Condition}
 use Rattle.tasks.specs.declared.rows.Task.{Task}
 use Rattle.tasks.specs.View.{View as TaskView, added, written, fresh as fresh-tasks}

@@ -5,7 +5,7 @@ ghost use Prim.Native.Nat.{ℕ, _<_, _≤_};
 ghost use Rattle.std.specs.declared.option.Option.the-variants.{None as Nothing, Some as Just};
 ghost use Rattle.chain.specs.Chain.{Row, first};
 ghost use Rattle.packets.specs.Places.{handed};
-ghost use Rattle.packets.specs.View.{filled, blank as blank-at};
+ghost use Rattle.packets.specs.View.{filled};
 ghost use Rattle.tasks.specs.Use.{task-at};
 ghost use Rattle.tasks.specs.View.{others-have, written};
 ghost use Rattle.tables.specs.State.{task, task-part, packet, free, queue};
@@ -18,19 +18,6 @@ use packets::table::PacketTable;
 use tasks::rows::Condition;
 use tasks::rows::Task;
 use tasks::table::TaskTable;
-
-// A packet of that place with every other field 0.
-fn blank(place: Place) -> Packet
-    ensures { λ r. ⌜ r ≡ blank-at place ⌝ }
-{
-    Packet {
-        place,
-        sender: 0,
-        kind: 0,
-        first: 0,
-        second: 0,
-    }
-}
 
 // The packet in the hands of task t, and the same otherwise.
 fn handed_to(packet: Packet, t: u8) -> Packet
@@ -148,7 +135,7 @@ impl Tables {
         requires some { ⌜ filled (free (view (now self))) ≡ true ⌝ }
         ensures { λ _. ⌜ view (now (self .exit)) ≡ take-free (view (now (self .entry))) t ⌝ }
     {
-        self.packets.take_first(0, blank(Place::Hands(t)));
+        self.packets.take_first(0, Packet::blank(Place::Hands(t)));
     }
 
     // Packet n, which is in hands, becomes the last of the free ones.
@@ -157,7 +144,7 @@ impl Tables {
         requires off { ⌜ handed (packet (view (now self)) n .place) ≡ true ⌝ }
         ensures { λ _. ⌜ view (now (self .exit)) ≡ put-free (view (now (self .entry))) n ⌝ }
     {
-        self.packets.put_last(0, n, blank(Place::Free));
+        self.packets.put_last(0, n, Packet::blank(Place::Free));
     }
 
     // Packet n, which is in hands, becomes the last on the queue of task t, with those fields.

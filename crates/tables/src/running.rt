@@ -1,4 +1,4 @@
-// Which task runs, and what the tables always keep.
+// Which task runs. What every kernel keeps at all times stands in the contract too.
 ghost use mathlib.Core.Path.{_≡_};
 ghost use Prim.Native.Nat.{ℕ, _<_, _≤_};
 ghost use Rattle.chain.specs.Chain.{next, rest};
@@ -62,6 +62,7 @@ impl Tables {
         ensures is { λ r. ⌜ r ≡ running (view (now (self .entry))) ⌝ }
         ensures greatest { λ r. ⌜ Greatest (view (now (self .entry))) r ⌝ }
         ensures task { λ r. ⌜ r ≤ 32 ⌝ }
+        ensures kept { λ _. ⌜ Kept (view (now (self .entry))) ⌝ }
     {
         self.first_runnable(top)
     }
@@ -71,12 +72,8 @@ impl Tables {
         ensures is { λ r. ⌜ r ≡ running (view (now (self .entry))) ⌝ }
         ensures greatest { λ r. ⌜ Greatest (view (now (self .entry))) r ⌝ }
         ensures task { λ r. ⌜ r ≤ 32 ⌝ }
+        ensures kept { λ _. ⌜ Kept (view (now (self .entry))) ⌝ }
     {
         self.runner(self.tasks.first())
     }
-
-    // What every kernel keeps at all times.
-    pub fn kept(&self)
-        ensures { λ _. ⌜ Kept (view (now (self .entry))) ⌝ }
-    {}
 }

@@ -1,11 +1,10 @@
-// The way down the order, and what every order comes to.
+// The way down the order.
 ghost use mathlib.Core.Path.{_≡_};
 ghost use Prim.Native.Nat.{_-_};
 ghost use lib.ListN.{getD};
 ghost use Rattle.chain.specs.Chain.{Row, next};
 ghost use Rattle.tasks.specs.Use.{empty};
-ghost use Rattle.tasks.specs.View.{view, links};
-ghost use Rattle.tasks.specs.Priorities.{By-falling-priority};
+ghost use Rattle.tasks.specs.View.{links};
 use super::rows::TaskRow;
 use super::table::TaskTable;
 
@@ -32,9 +31,4 @@ impl TaskTable {
     {
         self.row(t).next
     }
-
-    // In every table the tasks in use stand once each, by falling priority.
-    pub fn by_falling_priority(&self)
-        ensures { λ _. ⌜ By-falling-priority (view (now (self .entry))) ⌝ }
-    {}
 }

@@ -14,7 +14,7 @@ pub loop-call-again : need.loop-call-again
 loop-call-again c =
     let inv = c .loop-call .inv in
     let taken = c .loop-call-test .taken in
-    let called = c .call-answer .ensures in (
+    let called = c .call-answer .ensures .step in (
       omega arith,
       omega arith,
       answers-more _ _ _ Claim _ _ _ taken (inv .3) called _ _ (inv .2) (c .push-reserved .ensures .items),

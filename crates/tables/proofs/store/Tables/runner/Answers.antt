@@ -4,7 +4,7 @@ use Rattle.tasks.specs.View.{links}
 use Rattle.tasks.proofs.Walk.{Met, met-first, rest-first}
 use Rattle.tables.specs.Running.{first-runnable, running}
 use Rattle.tables.specs.View.{view}
-use Rattle.tables.proofs.Runs.{greatest, running-bound}
+use Rattle.tables.proofs.Runs.{greatest, running-bound, kept}
 use Rattle.tables.proofs.store.Tables.runner.Needs as need
 
 pub first-runnable-requires : need.first-runnable-requires
@@ -14,4 +14,4 @@ pub returns : need.returns
 returns c =
     let tb = c .args .self .now in
     let is : c .first-runnable .result ≡ running (view tb) = c .first-runnable .ensures ∙ ap (λ z. first-runnable (view tb) (rest (links (tb .tasks)) z)) (c .pre) ∙ ap (first-runnable (view tb)) (rest-first (tb .tasks)) in
-    record { is = is; greatest = greatest tb _ is; task = running-bound tb _ is }
+    record { is = is; greatest = greatest tb _ is; task = running-bound tb _ is; kept = kept tb }
