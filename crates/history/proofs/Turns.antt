@@ -1,4 +1,4 @@
--- Histories in parts, and what one more call adds. Assumes nothing.
+-- Histories in parts, and what one more call adds.
 use mathlib.Core.Path.{_≡_, refl, sym, ap, _∙_}
 use mathlib.Core.List.{List, [], _∷_, _++_}
 use Prim.Native.Nat.{ℕ, suc, _+_, _<_}

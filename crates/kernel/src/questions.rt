@@ -1,11 +1,11 @@
 // The questions that the calls of a started kernel ask.
 ghost use mathlib.Core.Path.{_≡_};
 ghost use mathlib.Core.Bool.{true};
+ghost use mathlib.Core.List.{[], _∷_};
 ghost use Rattle.std.specs.declared.option.Option.the-variants.{None};
 ghost use Rattle.chain.specs.Chain.{Row};
 ghost use Rattle.packets.specs.Places.{handed};
 ghost use Rattle.tables.specs.State.{packet as packet-at};
-ghost use mathlib.Core.List.{[], _∷_};
 ghost use Rattle.kernel.specs.Questions.{first-no, yes, task-runs, runner-ready, task-known, packet-in-hands, hands-of, drop-asks};
 ghost use Rattle.kernel.specs.View.{state};
 use super::calls::Refusal;

@@ -19,7 +19,7 @@ use rows::Place;
 use table::PacketTable;
 
 impl PacketTable {
-    // No packet is on a list yet.
+    // No packet is on a list yet: each is in the hands of task 0, which is nobody.
     fn unplaced() -> PacketTable
         ensures { λ r. ⌜ view r ≡ unplaced ⌝ }
     {
@@ -56,6 +56,7 @@ impl PacketTable {
         table
     }
 
+    // Packet n.
     fn read(&self, n: u8) -> Packet
         requires { ⌜ Row 64 n ⌝ }
         ensures { λ r. ⌜ r ≡ getD (view (now (self .entry)) .packets) (n - 1) (blank Place.Free) ⌝ }
@@ -74,6 +75,7 @@ impl PacketTable {
         }
     }
 
+    // The head of list i, which is its first packet, or 0.
     fn head(&self, i: u8) -> u8
         requires { ⌜ i < 33 ⌝ }
         ensures is { λ r. ⌜ r ≡ getD (now (self .entry) .heads) i 0 ⌝ }
@@ -88,7 +90,8 @@ impl PacketTable {
         requires list { ⌜ i < 33 ⌝ }
         ensures { λ r. ⌜ r ≡ filled (list (view (now (self .entry))) i) ⌝ }
     {
-        self.head(i) != 0
+        let first = self.head(i);
+        first != 0
     }
 
     // The first packet of list i, or 0.

@@ -1,4 +1,4 @@
--- What `decoded` says of a whole record, and what a call that it gives says of the bytes. Assumes nothing.
+-- What `decoded` says of a whole record, and what a call that it gives says of the bytes.
 use mathlib.Core.Path.{_≡_, refl, sym, ap, _∙_}
 use mathlib.Core.Bool.{Bool, true, false, _&&_, cond}
 use mathlib.Core.List.{List}

@@ -1,4 +1,4 @@
--- A record that was made of a call is read as that call. Assumes nothing.
+-- A record that was made of a call is read as that call.
 use mathlib.Core.Path.{_≡_, sym, ap, _∙_}
 use mathlib.Core.Bool.{false}
 use mathlib.Core.List.{List, [], _∷_, _++_}

@@ -1,4 +1,4 @@
--- A loop that adds a line for each pair of a call and an answer. Assumes nothing.
+-- A loop that adds a line for each pair of a call and an answer.
 use mathlib.Core.Path.{_≡_, refl, sym, ap, _∙_}
 use mathlib.Core.List.{List, [], _∷_, _++_, map, append-nil, append-assoc}
 

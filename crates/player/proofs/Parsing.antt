@@ -1,4 +1,4 @@
--- What a script says, one record at a time. Assumes nothing.
+-- What a script says, one record at a time.
 use mathlib.Core.Path.{_≡_, refl, sym, ap, _∙_}
 use mathlib.Core.List.{List, [], _∷_, _++_, append-nil, append-assoc}
 use Prim.Native.Nat.{ℕ, zero, suc, _<_, _≤_}

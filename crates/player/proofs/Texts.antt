@@ -1,4 +1,4 @@
--- What one turn of `printed` adds. Assumes nothing.
+-- What one turn of `printed` adds.
 use mathlib.Core.Path.{_≡_, sym, ap, _∙_}
 use mathlib.Core.Bool.{false}
 use mathlib.Core.List.{List, [], _++_}

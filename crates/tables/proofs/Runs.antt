@@ -20,10 +20,10 @@ use Rattle.packets.proofs.Moves.{table-placed}
 use Rattle.tasks.specs.declared.rows.Task.{Task}
 use Rattle.tasks.specs.declared.table.TaskTable.{TaskTable}
 use Rattle.tasks.specs.Use.{rank, in-use, task-at}
-use Rattle.tasks.specs.View.{view as task-view, links}
+use Rattle.tasks.specs.View.{view as task-view, links, Met}
 use Rattle.tasks.proofs.Numbers.{rank-at}
 use Rattle.tasks.proofs.Priorities.{by-falling-priority}
-use Rattle.tasks.proofs.Walk.{Met, rest-first, rest-end, rest-on, rest-shorter, met-first, met-next, met-row}
+use Rattle.tasks.proofs.Walk.{rest-first, rest-end, rest-on, rest-shorter, met-first, met-next, met-row}
 use Rattle.tables.specs.declared.store.Tables.{Tables}
 use Rattle.tables.specs.State.{State, task, used}
 use Rattle.tables.specs.Running.{may-run, runnable, first-runnable, running, Greatest}

@@ -73,6 +73,7 @@ impl Tables {
         self.tasks.task(t)
     }
 
+    // The first task by falling priority, or 0.
     fn first_of_order(&self) -> u8
         ensures { λ r. ⌜ r ≡ first (view (now (self .entry)) .order) ⌝ }
     {

@@ -2,8 +2,7 @@
 ghost use mathlib.Core.Path.{_≡_};
 ghost use Prim.Native.Nat.{ℕ, _<_, _≤_};
 ghost use Rattle.chain.specs.Chain.{next, rest};
-ghost use Rattle.tasks.specs.View.{links};
-ghost use Rattle.tasks.proofs.Walk.{Met};
+ghost use Rattle.tasks.specs.View.{links, Met};
 ghost use Rattle.tables.specs.Running.{is-ready, may-run, runnable, first-runnable, running, Greatest};
 ghost use Rattle.tables.specs.View.{view};
 ghost use Rattle.tables.specs.Kept.{Kept};

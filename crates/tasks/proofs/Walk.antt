@@ -14,7 +14,7 @@ use Rattle.std.specs.declared.option.Option.the-variants.{Some, None}
 use Rattle.tasks.specs.declared.rows.Task.{Task}
 use Rattle.tasks.specs.declared.table.TaskTable.{TaskTable}
 use Rattle.tasks.specs.Use.{in-use}
-use Rattle.tasks.specs.View.{view, links, task}
+use Rattle.tasks.specs.View.{view, links, Met, task}
 
 -- the part of a path from row n on
 record From (links : List ℕ) (n : ℕ) (xs : List ℕ) : Type 0 where
@@ -33,10 +33,6 @@ path-from links a (x ∷ xs) n p h =
 used-once : (x : Option Task) → 0 < in-use x → in-use x ≡ 1
 used-once (Some x) h = refl
 used-once None h = absurd (omega arith)
-
--- the walk has come to `at`: a task of the order, or 0 past its end
-abbrev pub Met : TaskTable → ℕ → Type 0
-Met t at = at ≢ 0 → 0 < times at (view t .order)
 
 module _ (t : TaskTable) where
   order-path : Path (links t) 0 (view t .order) 0

@@ -1,10 +1,12 @@
 -- The table of tasks as two lists: the tasks, and the order of those in use.
 use mathlib.Core.Bool.{Bool}
 use mathlib.Core.List.{List, [], _∷_, map}
-use Prim.Native.Nat.{ℕ, _-_}
+use mathlib.Core.Path.{_≡_}
+use Prim.Native.Nat.{ℕ, _-_, _<_}
 use lib.ListN.{set, replicate}
 use Rattle.std.specs.declared.option.Option.{Option}
 use Rattle.std.specs.declared.option.Option.the-variants.{Some, None}
+use Rattle.chain.specs.Times.{times}
 use Rattle.chain.specs.Chain.{chain, by-rank}
 use Rattle.tasks.specs.declared.rows.Task.{Task}
 use Rattle.tasks.specs.declared.table.TaskTable.{TaskTable}
@@ -21,6 +23,10 @@ links t = t .first ∷ map (λ r. r .next) (t .rows)
 
 abbrev pub view : TaskTable → View
 view t = record { tasks = map (λ r. r .task) (t .rows); order = chain (links t) }
+
+-- A walk down the order has come to `at`: a task of it, or 0 past its end.
+abbrev pub Met : TaskTable → ℕ → Type 0
+Met t at = (at ≡ 0 → ⊥) → 0 < times at (view t .order)
 
 -- Task t. No task has the number 0, or one past 32.
 abbrev pub task : View → ℕ → Option Task

@@ -1,8 +1,7 @@
 use mathlib.Core.Path.{_≡_}
 use lib.ListN.{length}
 use Rattle.chain.specs.Chain.{rest}
-use Rattle.tasks.specs.View.{links}
-use Rattle.tasks.proofs.Walk.{Met}
+use Rattle.tasks.specs.View.{links, Met}
 use Rattle.tables.specs.Running.{first-runnable}
 use Rattle.tables.specs.View.{view}
 use Rattle.tables.proofs.store.Tables.first_runnable.Given as given

@@ -1,7 +1,7 @@
 use mathlib.Core.Path.{_≡_, sym, ap, subst, _∙_}
 use Rattle.chain.specs.Chain.{rest}
-use Rattle.tasks.specs.View.{links}
-use Rattle.tasks.proofs.Walk.{Met, met-first, rest-first}
+use Rattle.tasks.specs.View.{links, Met}
+use Rattle.tasks.proofs.Walk.{met-first, rest-first}
 use Rattle.tables.specs.Running.{first-runnable, running}
 use Rattle.tables.specs.View.{view}
 use Rattle.tables.proofs.Runs.{greatest, running-bound, kept}
