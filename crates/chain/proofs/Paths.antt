@@ -251,8 +251,19 @@ cut-before links before at (x ∷ xs) back c l =
 
 -- ---- what the two changes come to
 
-becomes : (links links′ : List ℕ) (xs touched : List ℕ) → Path links′ 0 xs 0 → ((n : ℕ) → 0 < n → times n touched ≡ 0 → next links′ n ≡ next links n) → Becomes links links′ xs touched
-becomes links links′ xs touched p e = let r = chain-is links′ xs p in record { order = r .0; ends = r .1; once = path-once links′ 0 xs p; path = p; elsewhere = e }
+becomes : (links links′ : List ℕ) (xs touched : List ℕ) → 0 < length links → length links′ ≡ length links → Path links′ 0 xs 0 → ((n : ℕ) → 0 < n → times n touched ≡ 0 → next links′ n ≡ next links n) → Becomes links links′ xs touched
+becomes links links′ xs touched some len p e =
+    let r = chain-is links′ xs p in
+    record {
+      order = r .0;
+      ends = r .1;
+      once = path-once links′ 0 xs p;
+      path = p;
+      elsewhere = e;
+      others = λ g ends apart. let was = length-set links 0 g in let is = length-set links′ 0 g in
+          other-chain (set links 0 g) (set links′ 0 g) touched (omega arith) (next-set links′ 0 g (omega arith) ∙ sym (next-set links 0 g some))
+          (λ k h z. let nz : k ≢ 0 = λ q. omega arith in next-other links′ 0 g k nz ∙ e k h z ∙ sym (next-other links 0 g k nz)) apart ends;
+    }
 
 pub becomes-at : (links links′ links″ : List ℕ) (xs touched : List ℕ) → links″ ≡ links′ → Becomes links links′ xs touched → Becomes links links″ xs touched
 becomes-at links links′ links″ xs touched e b = subst (λ z. Becomes links z xs touched) (sym e) b
@@ -284,7 +295,9 @@ module _ (links : List ℕ) (before at : ℕ) (front back : List ℕ) (c : Cut l
       let w = ap (times n) (cut-chain links before at front back c .0) in
       let out0 : times n (0 ∷ (front ++ back)) ≡ 0 = let z = hit-other 0 n (λ e. omega arith) in omega arith in
       let p = insert-path links 0 front back 0 n whole (omega arith) (once-from-head links (front ++ back) whole) out0 h l in
-      becomes links (inserted links before n) (front ++ (n ∷ back)) (n ∷ chain links) (subst (λ z. Path (inserted links z n) 0 (front ++ (n ∷ back)) 0) (sym (c .before-is)) p)
+      let l1 = length-set links n (next links before) in
+      let l2 = length-set (set links n (next links before)) before n in
+      becomes links (inserted links before n) (front ++ (n ∷ back)) (n ∷ chain links) (omega arith) (omega arith) (subst (λ z. Path (inserted links z n) 0 (front ++ (n ∷ back)) 0) (sym (c .before-is)) p)
       (λ k hk o. let ne : k ≢ n = λ e. let z = hit-same n k (sym e) in omega arith in
       let nb = known (omega arith) k hk (omega arith) in
       next-other (set links n (next links before)) before n k nb ∙ next-other links n (next links before) k ne)
@@ -300,13 +313,15 @@ took-first links l e ne =
     go (x ∷ xs) p q =
         let is : next links 0 ≡ x = p .0 in
         let cut = remove-path links 0 [] x xs 0 p l (once-from-head links (x ∷ xs) p) in
-        becomes links (removed links 0) (tail (chain links)) (chain links)
+        let l1 = length-set links 0 (next links (next links 0)) in
+        let l2 = length-set (set links 0 (next links (next links 0))) (next links 0) 0 in
+        becomes links (removed links 0) (tail (chain links)) (chain links) l (omega arith)
         (subst (λ z. Path (removed links 0) 0 z 0) (sym (ap tail q)) (subst (λ z. Path (set (set links 0 (next links z)) z 0) 0 xs 0) (sym is) cut))
         (λ k h o. let w = ap (times k) q in let nx : k ≢ next links 0 = λ e. let z = hit-same x k (sym (e ∙ is)) in omega arith in
         next-other (set links 0 (next links (next links 0))) (next links 0) 0 k nx ∙ next-other links 0 (next links (next links 0)) k (λ e. omega arith))
 
-pub took-none : (links : List ℕ) → next links 0 ≡ 0 → Becomes links links (tail (chain links)) (chain links)
-took-none links e = becomes-list links links [] _ _ (sym (ap tail (chain-none links e .0))) (becomes links links [] (chain links) e (λ n h o. refl))
+pub took-none : (links : List ℕ) → 0 < length links → next links 0 ≡ 0 → Becomes links links (tail (chain links)) (chain links)
+took-none links l e = becomes-list links links [] _ _ (sym (ap tail (chain-none links e .0))) (becomes links links [] (chain links) l refl e (λ n h o. refl))
 
 -- the row that was taken has no link
 pub took-loose : (links : List ℕ) → next links 0 < length links → next (removed links 0) (next links 0) ≡ 0

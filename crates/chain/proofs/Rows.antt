@@ -21,7 +21,7 @@ module _ {R : Type 0} (rows : List R) (link : R → ℕ) (head : ℕ) where
       ap (λ z. head ∷ z) (map-set link rows (suc k - 1) x ∙ ap (λ z. set (map link rows) z (link x)) s ∙ ap (set (map link rows) k) e)
 
 -- a row in whose place comes one that f does not tell from it
-pub map-kept : {R : Type 0} (rows : List R) (f : R → R) (i : ℕ) (x d : R) → f x ≡ f (getD rows i d) → map f (set rows i x) ≡ map f rows
+pub map-kept : {R F : Type 0} (rows : List R) (f : R → F) (i : ℕ) (x d : R) → f x ≡ f (getD rows i d) → map f (set rows i x) ≡ map f rows
 map-kept rows f i x d e =
     map-set f rows i x ∙ ap (set (map f rows) i) e ∙ sym (map-set f rows i (getD rows i d)) ∙ ap (map f) (set-getD rows i d)
 

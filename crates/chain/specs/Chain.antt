@@ -78,14 +78,19 @@ inserted links b n = set (set links n (next links b)) b n
 abbrev pub removed : List ℕ → ℕ → List ℕ
 removed links b = let n = next links b in set (set links b (next links n)) n 0
 
--- A change of links: the chain is xs now; it ends, names no row twice, and each of its rows is followed by the next; and only rows of
--- `touched` have another link.
+-- Another chain through the same rows, from the head g.
+abbrev pub from-head : ℕ → List ℕ → List ℕ
+from-head g links = set links 0 g
+
+-- A change of links: the chain is xs now; it ends, names no row twice, and each of its rows is followed by the next; only rows of
+-- `touched` have another link; and every other chain that has none of these rows is as it was.
 pub record Becomes (links links′ : List ℕ) (xs touched : List ℕ) : Type 0 where
   pub order : chain links′ ≡ xs
   pub ends : Ends links′
   pub once : (n : ℕ) → times n xs ≤ 1
   pub path : Path links′ 0 xs 0
   pub elsewhere : (n : ℕ) → 0 < n → times n touched ≡ 0 → next links′ n ≡ next links n
+  pub others : (g : ℕ) → Ends (from-head g links) → ((n : ℕ) → 0 < times n (chain (from-head g links)) → times n touched ≡ 0) → (chain (from-head g links′) ≡ chain (from-head g links)) × Ends (from-head g links′)
 
 -- Rows are the same but for their links.
 abbrev pub Kept : {R : Type 0} → (R → ℕ → R) → List R → List R → Type 0

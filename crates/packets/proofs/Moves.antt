@@ -1,12 +1,12 @@
 -- Packets that go from list to list.
 use mathlib.Core.Path.{_≡_, refl, sym, ap, ap₂, subst, _∙_}
-use mathlib.Core.List.{List, [], _∷_, _++_, map}
+use mathlib.Core.List.{List, [], _∷_, _++_, map, map-map}
 use mathlib.Core.Logic.{_⊎_, inl, inr, ⊎-elim, _≢_}
 use mathlib.Core.Bool.{Bool, true, false, not, _&&_}
 use Prim.Native.Nat.{ℕ, zero, suc, _+_, _-_, _≤_, _<_}
 use native.Mathlib.Omega.{arith}
 use lib.ListN.{length, getD, set, length-map, length-set, List·getD-map}
-use Rattle.std.proofs.shelf.Lists.{map-set, set-getD, getD-map, getD-set-same, getD-set-other, getD-past, getD-default}
+use Rattle.std.proofs.shelf.Lists.{map-set, getD-map, getD-set-same, getD-set-other, getD-past}
 use lib.Dec.{eqb, leb}
 use Rattle.std.proofs.shelf.Tests.{cases-eq, cases-lt, both-ways, cond-true, and-from, le-leb, eq-eqb, ne-eqb}
 use Rattle.chain.specs.Times.{hit, times}
@@ -14,6 +14,7 @@ use Rattle.chain.specs.Chain.{next, chain, Ends, Row, Becomes, Kept, first, tai
 use Rattle.chain.specs.Lists.{list as list-of, lists, All-end, Stand}
 use Rattle.chain.proofs.Times.{hit-same, hit-other, times-append}
 use Rattle.chain.proofs.Paths.{first-row as chain-first}
+use Rattle.chain.proofs.Rows.{map-kept}
 use Rattle.chain.proofs.Lists.{lists-at, changed-ends, changed-lists, changed-stand, list-empty, list-first, first-is}
 use Rattle.packets.specs.declared.rows.Place.{Place}
 use Rattle.packets.specs.declared.rows.Place.the-variants.{Free, Hands, Queue}
@@ -85,18 +86,13 @@ abbrev pub rewritten : List PacketRow → ℕ → Packet → List PacketRow
 rewritten rows n to = set rows (n - 1) (record { packet = to; next = getD rows (n - 1) blank-row .next })
 
 links-same : (rows : List PacketRow) (n : ℕ) (to : Packet) → map link (rewritten rows n to) ≡ map link rows
-links-same rows n to =
-    map-set link rows (n - 1) _ ∙ sym (map-set link rows (n - 1) (getD rows (n - 1) blank-row)) ∙ ap (map link) (set-getD rows (n - 1) blank-row)
-
-map-fuse : {X Y Z : Type 0} (f : Y → Z) (g : X → Y) (xs : List X) → map f (map g xs) ≡ map (λ x. f (g x)) xs
-map-fuse f g [] = refl
-map-fuse f g (x ∷ xs) = ap (λ z. f (g x) ∷ z) (map-fuse f g xs)
+links-same rows n to = map-kept rows link (n - 1) _ blank-row refl
 
 -- a field of the packets, where the links may have changed and row n is written
 field-set : {F : Type 0} (f : Packet → F) (rows rows′ : List PacketRow) (n : ℕ) (to : Packet) → Kept relinked rows rows′ → map (λ r. f (held r)) (rewritten rows′ n to) ≡ set (map (λ r. f (held r)) rows) (n - 1) (f to)
 field-set f rows rows′ n to kept =
     let bare : PacketRow → PacketRow = λ r. relinked r 0 in
-    let same : map (λ r. f (held r)) rows′ ≡ map (λ r. f (held r)) rows = sym (map-fuse (λ r. f (held r)) bare rows′) ∙ ap (map (λ r. f (held r))) kept ∙ map-fuse (λ r. f (held r)) bare rows in
+    let same : map (λ r. f (held r)) rows′ ≡ map (λ r. f (held r)) rows = sym (map-map (λ r. f (held r)) bare rows′) ∙ ap (map (λ r. f (held r))) kept ∙ map-map (λ r. f (held r)) bare rows in
     map-set (λ r. f (held r)) rows′ (n - 1) _ ∙ ap (λ z. set z (n - 1) (f to)) same
 
 -- a packet that there is
@@ -244,7 +240,7 @@ first-row rows heads i n at ends is f =
 -- every packet stands on the list of its place, and on no other
 pub table-placed : (t : PacketTable) (i n : ℕ) → times n (list (view t) i) ≡ stands (place-at (map (λ p. p .place) (view t .packets)) n) i
 table-placed t i n =
-    ap (times n) (view-list t i) ∙ t .placed i n ∙ ap (λ ps. stands (place-at ps n) i) (sym (map-fuse (λ p. p .place) held (t .rows)))
+    ap (times n) (view-list t i) ∙ t .placed i n ∙ ap (λ ps. stands (place-at ps n) i) (sym (map-map (λ p. p .place) held (t .rows)))
   where
     view-list : (t : PacketTable) (i : ℕ) → list (view t) i ≡ list-of (t .heads) (map link (t .rows)) i
     view-list t i =

@@ -4,9 +4,10 @@ use mathlib.Core.List.{List, _∷_, map, map-map}
 use Prim.Native.Nat.{ℕ, zero, suc, _-_}
 use native.Mathlib.Omega.{arith}
 use lib.ListN.{length, getD, set}
-use Rattle.std.proofs.shelf.Lists.{map-set, set-getD, getD-map}
+use Rattle.std.proofs.shelf.Lists.{map-set, getD-map}
 use Rattle.std.specs.declared.option.Option.{Option}
 use Rattle.chain.specs.Chain.{next, chain, by-rank, Row, Kept}
+use Rattle.chain.proofs.Rows.{map-kept}
 use Rattle.tasks.specs.declared.rows.Task.{Task}
 use Rattle.tasks.specs.declared.rows.TaskRow.{TaskRow}
 use Rattle.tasks.specs.Use.{rank, empty, holding}
@@ -37,9 +38,7 @@ tasks-kept rows rows′ e =
 
 module _ (rows : List TaskRow) (t : ℕ) (x : Task) (r : TaskRow) (is : r ≡ holding (getD rows (t - 1) empty) x) where
   pub links-same : map link (set rows (t - 1) r) ≡ map link rows
-  links-same =
-      let was = getD rows (t - 1) empty in
-      map-set link rows (t - 1) r ∙ ap (λ z. set (map link rows) (t - 1) (link z)) is ∙ sym (map-set link rows (t - 1) was) ∙ ap (map link) (set-getD rows (t - 1) empty)
+  links-same = map-kept rows link (t - 1) r empty (ap link is)
 
   pub tasks-set : map held (set rows (t - 1) r) ≡ with-task (map held rows) t x
   tasks-set = map-set held rows (t - 1) r ∙ ap (λ z. set (map held rows) (t - 1) (held z)) is

@@ -11,7 +11,7 @@ returns-then-n-eq0 g c =
     let links = map (g .R·Link .link) (c .args .rows .now) in
     let e : c .args .head ≡ 0 = sym (c .pre .first) ∙ c .if-n-eq0 .taken in
     record {
-      becomes = becomes-at (c .args .head ∷ links) (c .args .head ∷ links) _ _ _ (ap (λ h. h ∷ links) (sym e)) (took-none (c .args .head ∷ links) e);
+      becomes = becomes-at (c .args .head ∷ links) (c .args .head ∷ links) _ _ _ (ap (λ h. h ∷ links) (sym e)) (took-none (c .args .head ∷ links) (omega arith) e);
       loose = λ h. absurd (omega arith);
       kept = refl;
     }
