@@ -9,7 +9,7 @@ use lib.Dec.{eqb}
 use lib.ListN.{length}
 use Rattle.std.proofs.shelf.Ways.{tells}
 use Rattle.std.proofs.shelf.Tests.{cond-true, cond-false, eq-eqb, ne-eqb, cases-eq}
-use Rattle.chain.specs.Times.{hit, times, without}
+use Rattle.chain.specs.Times.{hit, times}
 use Rattle.chain.specs.Chain.{last}
 
 pub hit-same : (x n : ℕ) → x ≡ n → hit x n ≡ 1
@@ -38,7 +38,12 @@ pub times-last : (x : ℕ) (xs : List ℕ) → 0 < times (last x xs) (x ∷ xs)
 times-last x [] = let h = times-here x [] in omega arith
 times-last x (y ∷ ys) = let h = times-last y ys in omega arith
 
-pub times-without : (k n : ℕ) (xs : List ℕ) → times k (without n xs) ≡ times k xs - hit n k
+-- the list with the first n in it taken out
+abbrev without : ℕ → List ℕ → List ℕ
+without n [] = []
+without n (x ∷ xs) = cond (eqb x n) xs (x ∷ without n xs)
+
+times-without : (k n : ℕ) (xs : List ℕ) → times k (without n xs) ≡ times k xs - hit n k
 times-without k n [] = omega arith
 times-without k n (x ∷ xs) = let h = times-without k n xs in grind (arith, tells, h)
 

@@ -11,8 +11,3 @@ hit x n = cond (eqb x n) 1 0
 abbrev pub times : ℕ → List ℕ → ℕ
 times n [] = 0
 times n (x ∷ xs) = hit x n + times n xs
-
--- the list with the first n in it taken out
-abbrev pub without : ℕ → List ℕ → List ℕ
-without n [] = []
-without n (x ∷ xs) = cond (eqb x n) xs (x ∷ without n xs)

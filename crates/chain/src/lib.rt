@@ -19,6 +19,8 @@ pub trait Link {
 
     law again: { (r : Self) (m n : ℕ) → relinked (relinked r m) n ≡ relinked r n };
 
+    law same: { (r : Self) → relinked r (link r) ≡ r };
+
     fn next(&self) -> u8
         ensures { λ r. ⌜ r ≡ link (now (self .entry)) ⌝ };
 

@@ -6,6 +6,7 @@ ghost use Rattle.tables.specs.Running.{running, Greatest};
 ghost use Rattle.tables.specs.Kept.{Kept};
 ghost use Rattle.kernel.specs.declared.calls.Call.the-variants.{Claim as claim-call, Drop as drop-call, Send as send-call, Wait as wait-call};
 ghost use Rattle.kernel.specs.Steps.{Steps};
+ghost use Rattle.kernel.specs.Told.{Calls-do-as-told};
 ghost use Rattle.kernel.specs.View.{state, left};
 use super::calls::Answer;
 use super::calls::Call;
@@ -153,4 +154,11 @@ impl Started {
         let Started { tables } = self;
         Stopped { tables }
     }
+}
+
+// What each call changes, said of each packet, each queue and each task.
+pub fn calls_do_as_told() -> u8
+    ensures { λ _. ⌜ Calls-do-as-told ⌝ }
+{
+    0
 }

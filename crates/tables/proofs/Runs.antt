@@ -5,7 +5,7 @@ use mathlib.Core.List.{List, [], _∷_, map}
 use mathlib.Core.Logic.{_⊎_, inl, inr, ⊎-elim, _≢_}
 use Prim.Native.Nat.{ℕ, _<_, _≤_}
 use native.Mathlib.Omega.{arith}
-use lib.ListN.{length}
+use lib.ListN.{length, length-map}
 use Rattle.std.proofs.shelf.Tests.{cond-true, cond-false, cond-both, both-ways, cases-eq, cases-bool}
 use Rattle.std.specs.Options.{isSome}
 use Rattle.std.specs.declared.option.Option.{Option}
@@ -22,7 +22,7 @@ use Rattle.tasks.specs.declared.table.TaskTable.{TaskTable}
 use Rattle.tasks.specs.Use.{rank, in-use, task-at}
 use Rattle.tasks.specs.View.{view as task-view, links, Met}
 use Rattle.tasks.proofs.Numbers.{rank-at}
-use Rattle.tasks.proofs.Priorities.{by-falling-priority}
+use Rattle.tasks.proofs.Priorities.{by-falling-priority, tasks-length}
 use Rattle.tasks.proofs.Walk.{rest-first, rest-end, rest-on, rest-shorter, met-first, met-next, met-row}
 use Rattle.tables.specs.declared.store.Tables.{Tables}
 use Rattle.tables.specs.State.{State, task, used}
@@ -51,7 +51,7 @@ run-end tb at e = ap (λ z. first-runnable (view tb) (rest (links (tb .tasks)) z
 
 -- ---- the first runnable task of a falling list
 
-first-on : (s : State) (xs : List ℕ) → first-runnable s xs ≢ 0 → (runnable s (first-runnable s xs) ≡ true) × (0 < times (first-runnable s xs) xs)
+pub first-on : (s : State) (xs : List ℕ) → first-runnable s xs ≢ 0 → (runnable s (first-runnable s xs) ≡ true) × (0 < times (first-runnable s xs) xs)
 first-on s [] ne = absurd (ne refl)
 first-on s (x ∷ xs) ne =
     cond-both (runnable s x) x (first-runnable s xs) (λ z. z ≢ 0 → (runnable s z ≡ true) × (0 < times z (x ∷ xs)))
@@ -74,7 +74,7 @@ first-above s ranks (x ∷ xs) f t m ne r =
 
 -- ---- of a kernel's tables
 
-may-use : (x : Option Task) (q : Bool) → may-run x q ≡ true → in-use x ≡ 1
+pub may-use : (x : Option Task) (q : Bool) → may-run x q ≡ true → in-use x ≡ 1
 may-use None q e = absurd (both-ways false refl e)
 may-use (Some x) q e = refl
 
@@ -124,6 +124,9 @@ module _ (tb : Tables) where
   kept =
       let order = by-falling-priority (tb .tasks) in
       record {
+        task-count = tasks-length (tb .tasks);
+        packet-count = length-map (tb .packets .rows) (λ r. r .packet) ∙ tb .packets .sized .0;
+        list-count = length-map (tb .packets .heads) _ ∙ tb .packets .sized .1;
         priorities = λ t u a b e. let x = some-task t a in let y = some-task u b in order .distinct t u (x .0) (y .0) (x .1) (y .1) (sym (ap rank (x .1)) ∙ e ∙ ap rank (y .1));
         ordered = order .each-once;
         falling = order .falling;

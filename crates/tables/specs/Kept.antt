@@ -11,6 +11,10 @@ use Rattle.tables.specs.State.{State, packet-part, task, used}
 use Rattle.tasks.specs.Use.{rank, in-use}
 
 pub record Kept (s : State) : Type 0 where
+  -- 32 task numbers, 64 packets, and 33 lists: the free packets and a queue for each task number
+  pub task-count : length (s .tasks) ≡ 32
+  pub packet-count : length (s .packets) ≡ 64
+  pub list-count : length (s .lists) ≡ 33
   -- no two tasks share a priority
   pub priorities : (t u : ℕ) → used s t ≡ true → used s u ≡ true → rank (task s t) ≡ rank (task s u) → t ≡ u
   -- the order names every task in use once, and no other number

@@ -117,7 +117,7 @@ impl Tables {
 
     // Whether a packet is queued for task t.
     pub fn any_queued(&self, t: u8) -> bool
-        requires task { ⌜ t < 33 ⌝ }
+        requires task { ⌜ Row 32 t ⌝ }
         ensures { λ r. ⌜ r ≡ filled (queue (view (now (self .entry))) t) ⌝ }
     {
         self.packets.filled(t)
@@ -125,7 +125,7 @@ impl Tables {
 
     // The first packet on the queue of task t, or 0.
     pub fn first_queued(&self, t: u8) -> u8
-        requires task { ⌜ t < 33 ⌝ }
+        requires task { ⌜ Row 32 t ⌝ }
         ensures { λ r. ⌜ r ≡ first (queue (view (now (self .entry))) t) ⌝ }
     {
         self.packets.first(t)
@@ -170,7 +170,7 @@ impl Tables {
 
     // The first packet on the queue of task t goes into its hands.
     pub fn take_queued(&mut self, t: u8)
-        requires task { ⌜ t < 33 ⌝ }
+        requires task { ⌜ Row 32 t ⌝ }
         requires some { ⌜ filled (queue (view (now self)) t) ≡ true ⌝ }
         ensures { λ _. ⌜ view (now (self .exit)) ≡ take-queued (view (now (self .entry))) t ⌝ }
     {
