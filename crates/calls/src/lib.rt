@@ -1,4 +1,6 @@
 // The calls of a kernel with their answers, and the questions that they ask first.
+#![tactic(auto)]
+
 ghost use Rattle.std.specs.Prelude.{◌≡◌};
 ghost use Rattle.calls.specs.Numbers.{refusal_number, call_code};
 

@@ -1,5 +1,7 @@
 // Chains threaded through the rows of a slice. Rows are numbered from 1, each names the next one's number, and 0 ends a chain.
 // A head belongs to whoever keeps the rows: each function is passed it, and the ones that change the chain return the new one.
+#![tactic(auto)]
+
 ghost use Rattle.std.specs.Prelude.{◌≡◌, ℕ, ◌<◌, ◌≤◌, [], ◌∷◌, ◌++◌, map, length, nat_le, slice_set};
 ghost use Rattle.chain.specs.Times.{times};
 ghost use Rattle.chain.specs.Chain.{next, chain, Ends, Row, last, tail, without, inserted, removed, Before, Becomes, Kept, rank_of, by_rank, Place};
@@ -35,7 +37,7 @@ pub trait Ranked: Link {
 // What follows row n; the head follows 0.
 fn follower<R: Link>(rows: &[R], head: u8, n: u8) -> u8
     requires { n ≤ length rows.now }
-    ensures { result ≡ next (head ∷ map link rows.now) n }
+    ensures { result ≡ next (head ∷ map R.link rows.now) n }
 {
     if n == 0 {
         return head;
@@ -46,8 +48,8 @@ fn follower<R: Link>(rows: &[R], head: u8, n: u8) -> u8
 // Makes `to` follow row n, or become the head where n is 0. Returns the head.
 fn lead<R: Link>(rows: &mut [R], head: u8, n: u8, to: u8) -> u8
     requires { n ≤ length rows.old }
-    ensures links { result ∷ map link rows.new ≡ slice_set (head ∷ map link rows.old) n to }
-    ensures kept { Kept relinked rows.old rows.new }
+    ensures links { result ∷ map R.link rows.new ≡ slice_set (head ∷ map R.link rows.old) n to }
+    ensures kept { Kept R.relinked rows.old rows.new }
 {
     if n == 0 {
         return to;
@@ -60,8 +62,8 @@ fn lead<R: Link>(rows: &mut [R], head: u8, n: u8, to: u8) -> u8
 fn insert<R: Link>(rows: &mut [R], head: u8, before: u8, n: u8) -> u8
     requires before { before ≤ length rows.old }
     requires row { n ≤ length rows.old }
-    ensures links { result ∷ map link rows.new ≡ inserted (head ∷ map link rows.old) before n }
-    ensures kept { Kept relinked rows.old rows.new }
+    ensures links { result ∷ map R.link rows.new ≡ inserted (head ∷ map R.link rows.old) before n }
+    ensures kept { Kept R.relinked rows.old rows.new }
 {
     let at = follower(rows, head, before);
     let head = lead(rows, head, n, at);
@@ -72,9 +74,9 @@ fn insert<R: Link>(rows: &mut [R], head: u8, before: u8, n: u8) -> u8
 fn remove<R: Link>(rows: &mut [R], head: u8, before: u8, n: u8) -> u8
     requires before { before ≤ length rows.old }
     requires row { n ≤ length rows.old }
-    requires behind { n ≡ next (head ∷ map link rows.old) before }
-    ensures links { result ∷ map link rows.new ≡ removed (head ∷ map link rows.old) before }
-    ensures kept { Kept relinked rows.old rows.new }
+    requires behind { n ≡ next (head ∷ map R.link rows.old) before }
+    ensures links { result ∷ map R.link rows.new ≡ removed (head ∷ map R.link rows.old) before }
+    ensures kept { Kept R.relinked rows.old rows.new }
 {
     let at = follower(rows, head, n);
     let head = lead(rows, head, before, at);
@@ -83,11 +85,11 @@ fn remove<R: Link>(rows: &mut [R], head: u8, before: u8, n: u8) -> u8
 
 // Takes row n, the first of the chain, off it; where n is 0 there is none. Returns the head.
 fn unlink<R: Link>(rows: &mut [R], head: u8, n: u8) -> u8
-    requires ends { Ends (head ∷ map link rows.old) }
+    requires ends { Ends (head ∷ map R.link rows.old) }
     requires first { n ≡ head }
-    ensures becomes { Becomes (head ∷ map link rows.old) (result ∷ map link rows.new) (tail (chain (head ∷ map link rows.old))) (chain (head ∷ map link rows.old)) }
-    ensures loose { 0 < head → next (result ∷ map link rows.new) head ≡ 0 }
-    ensures kept { Kept relinked rows.old rows.new }
+    ensures becomes { Becomes (head ∷ map R.link rows.old) (result ∷ map R.link rows.new) (tail (chain (head ∷ map R.link rows.old))) (chain (head ∷ map R.link rows.old)) }
+    ensures loose { 0 < head → next (result ∷ map R.link rows.new) head ≡ 0 }
+    ensures kept { Kept R.relinked rows.old rows.new }
 {
     if n == 0 {
         return 0;
@@ -97,19 +99,19 @@ fn unlink<R: Link>(rows: &mut [R], head: u8, n: u8) -> u8
 
 // Takes the first row off the chain, and leaves it without a link; an empty chain stays as it is. Returns the head.
 pub fn take_first<R: Link>(rows: &mut [R], head: u8) -> u8
-    requires ends { Ends (head ∷ map link rows.old) }
-    ensures becomes { Becomes (head ∷ map link rows.old) (result ∷ map link rows.new) (tail (chain (head ∷ map link rows.old))) (chain (head ∷ map link rows.old)) }
-    ensures loose { 0 < head → next (result ∷ map link rows.new) head ≡ 0 }
-    ensures kept { Kept relinked rows.old rows.new }
+    requires ends { Ends (head ∷ map R.link rows.old) }
+    ensures becomes { Becomes (head ∷ map R.link rows.old) (result ∷ map R.link rows.new) (tail (chain (head ∷ map R.link rows.old))) (chain (head ∷ map R.link rows.old)) }
+    ensures loose { 0 < head → next (result ∷ map R.link rows.new) head ≡ 0 }
+    ensures kept { Kept R.relinked rows.old rows.new }
 {
     unlink(rows, head, head)
 }
 
 // How many rows the chain has.
 fn rows_from<R: Link>(rows: &[R], head: u8) -> u8
-    requires ends { Ends (head ∷ map link rows.now) }
+    requires ends { Ends (head ∷ map R.link rows.now) }
     requires short { length rows.now ≤ 255 }
-    ensures { result ≡ length (chain (head ∷ map link rows.now)) }
+    ensures { result ≡ length (chain (head ∷ map R.link rows.now)) }
 {
     let mut n = 0;
     let mut at = head;
@@ -122,18 +124,18 @@ fn rows_from<R: Link>(rows: &[R], head: u8) -> u8
 
 // How many rows the chain has.
 pub fn count<R: Link>(rows: &[R], head: u8) -> u8
-    requires ends { Ends (head ∷ map link rows.now) }
+    requires ends { Ends (head ∷ map R.link rows.now) }
     requires short { length rows.now ≤ 255 }
-    ensures { result ≡ length (chain (head ∷ map link rows.now)) }
+    ensures { result ≡ length (chain (head ∷ map R.link rows.now)) }
 {
     rows_from(rows, head)
 }
 
 // The row before row n, which stands on the chain, or 0.
 fn row_before<R: Link>(rows: &[R], head: u8, n: u8) -> u8
-    requires ends { Ends (head ∷ map link rows.now) }
-    requires inside { 0 < times n (chain (head ∷ map link rows.now)) }
-    ensures { Before (head ∷ map link rows.now) n result }
+    requires ends { Ends (head ∷ map R.link rows.now) }
+    requires inside { 0 < times n (chain (head ∷ map R.link rows.now)) }
+    ensures { Before (head ∷ map R.link rows.now) n result }
 {
     let mut before = 0;
     let mut at = head;
@@ -146,21 +148,21 @@ fn row_before<R: Link>(rows: &[R], head: u8, n: u8) -> u8
 
 // Takes row n, which stands behind row `before`, off the chain. Returns the head.
 fn take_at<R: Link>(rows: &mut [R], head: u8, before: u8, n: u8) -> u8
-    requires place { Before (head ∷ map link rows.old) n before }
-    ensures becomes { Becomes (head ∷ map link rows.old) (result ∷ map link rows.new) (without n (chain (head ∷ map link rows.old))) (chain (head ∷ map link rows.old)) }
-    ensures loose { next (result ∷ map link rows.new) n ≡ 0 }
-    ensures kept { Kept relinked rows.old rows.new }
+    requires place { Before (head ∷ map R.link rows.old) n before }
+    ensures becomes { Becomes (head ∷ map R.link rows.old) (result ∷ map R.link rows.new) (without n (chain (head ∷ map R.link rows.old))) (chain (head ∷ map R.link rows.old)) }
+    ensures loose { next (result ∷ map R.link rows.new) n ≡ 0 }
+    ensures kept { Kept R.relinked rows.old rows.new }
 {
     remove(rows, head, before, n)
 }
 
 // Takes row n, which stands on the chain, off it, and leaves it without a link. Returns the head.
 pub fn take<R: Link>(rows: &mut [R], head: u8, n: u8) -> u8
-    requires ends { Ends (head ∷ map link rows.old) }
-    requires inside { 0 < times n (chain (head ∷ map link rows.old)) }
-    ensures becomes { Becomes (head ∷ map link rows.old) (result ∷ map link rows.new) (without n (chain (head ∷ map link rows.old))) (chain (head ∷ map link rows.old)) }
-    ensures loose { next (result ∷ map link rows.new) n ≡ 0 }
-    ensures kept { Kept relinked rows.old rows.new }
+    requires ends { Ends (head ∷ map R.link rows.old) }
+    requires inside { 0 < times n (chain (head ∷ map R.link rows.old)) }
+    ensures becomes { Becomes (head ∷ map R.link rows.old) (result ∷ map R.link rows.new) (without n (chain (head ∷ map R.link rows.old))) (chain (head ∷ map R.link rows.old)) }
+    ensures loose { next (result ∷ map R.link rows.new) n ≡ 0 }
+    ensures kept { Kept R.relinked rows.old rows.new }
 {
     let before = row_before(rows, head, n);
     take_at(rows, head, before, n)
@@ -168,8 +170,8 @@ pub fn take<R: Link>(rows: &mut [R], head: u8, n: u8) -> u8
 
 // The last row of the chain, or 0.
 fn last_row<R: Link>(rows: &[R], head: u8) -> u8
-    requires ends { Ends (head ∷ map link rows.now) }
-    ensures { result ≡ last 0 (chain (head ∷ map link rows.now)) }
+    requires ends { Ends (head ∷ map R.link rows.now) }
+    ensures { result ≡ last 0 (chain (head ∷ map R.link rows.now)) }
 {
     let mut before = 0;
     let mut at = head;
@@ -182,23 +184,23 @@ fn last_row<R: Link>(rows: &[R], head: u8) -> u8
 
 // Puts row n behind the last row of the chain. Returns the head.
 fn append<R: Link>(rows: &mut [R], head: u8, last_row: u8, n: u8) -> u8
-    requires ends { Ends (head ∷ map link rows.old) }
-    requires last { last_row ≡ last 0 (chain (head ∷ map link rows.old)) }
+    requires ends { Ends (head ∷ map R.link rows.old) }
+    requires last { last_row ≡ last 0 (chain (head ∷ map R.link rows.old)) }
     requires row { Row (length rows.old) n }
-    requires outside { times n (chain (head ∷ map link rows.old)) ≡ 0 }
-    ensures becomes { Becomes (head ∷ map link rows.old) (result ∷ map link rows.new) (chain (head ∷ map link rows.old) ++ (n ∷ [])) (n ∷ chain (head ∷ map link rows.old)) }
-    ensures kept { Kept relinked rows.old rows.new }
+    requires outside { times n (chain (head ∷ map R.link rows.old)) ≡ 0 }
+    ensures becomes { Becomes (head ∷ map R.link rows.old) (result ∷ map R.link rows.new) (chain (head ∷ map R.link rows.old) ++ (n ∷ [])) (n ∷ chain (head ∷ map R.link rows.old)) }
+    ensures kept { Kept R.relinked rows.old rows.new }
 {
     insert(rows, head, last_row, n)
 }
 
 // Puts row n last on the chain. Returns the head.
 pub fn put_last<R: Link>(rows: &mut [R], head: u8, n: u8) -> u8
-    requires ends { Ends (head ∷ map link rows.old) }
+    requires ends { Ends (head ∷ map R.link rows.old) }
     requires row { Row (length rows.old) n }
-    requires outside { times n (chain (head ∷ map link rows.old)) ≡ 0 }
-    ensures becomes { Becomes (head ∷ map link rows.old) (result ∷ map link rows.new) (chain (head ∷ map link rows.old) ++ (n ∷ [])) (n ∷ chain (head ∷ map link rows.old)) }
-    ensures kept { Kept relinked rows.old rows.new }
+    requires outside { times n (chain (head ∷ map R.link rows.old)) ≡ 0 }
+    ensures becomes { Becomes (head ∷ map R.link rows.old) (result ∷ map R.link rows.new) (chain (head ∷ map R.link rows.old) ++ (n ∷ [])) (n ∷ chain (head ∷ map R.link rows.old)) }
+    ensures kept { Kept R.relinked rows.old rows.new }
 {
     let end = last_row(rows, head);
     append(rows, head, end, n)
@@ -207,7 +209,7 @@ pub fn put_last<R: Link>(rows: &mut [R], head: u8, n: u8) -> u8
 // The rank of row n.
 fn rank_at<R: Ranked>(rows: &[R], n: u8) -> u16
     requires { Row (length rows.now) n }
-    ensures { result ≡ rank_of (map key rows.now) n }
+    ensures { result ≡ rank_of (map R.key rows.now) n }
 {
     rows[(n - 1) as usize].rank()
 }
@@ -223,7 +225,7 @@ fn goes_behind(rank: u16, other: u16) -> bool
 fn find_place<R: Ranked>(rows: &[R], head: u8, n: u8) -> u8
     requires ends { Ends (head ∷ map R.Link.link rows.now) }
     requires row { Row (length rows.now) n }
-    ensures { Place (head ∷ map R.Link.link rows.now) (map key rows.now) n result }
+    ensures { Place (head ∷ map R.Link.link rows.now) (map R.key rows.now) n result }
 {
     let rank = rank_at(rows, n);
     let mut before = 0;
@@ -237,10 +239,10 @@ fn find_place<R: Ranked>(rows: &[R], head: u8, n: u8) -> u8
 
 // Puts row n behind the row behind which it belongs by its rank. Returns the head.
 fn put_at<R: Ranked>(rows: &mut [R], head: u8, before: u8, n: u8) -> u8
-    requires place { Place (head ∷ map R.Link.link rows.old) (map key rows.old) n before }
+    requires place { Place (head ∷ map R.Link.link rows.old) (map R.key rows.old) n before }
     requires row { Row (length rows.old) n }
     requires outside { times n (chain (head ∷ map R.Link.link rows.old)) ≡ 0 }
-    ensures becomes { Becomes (head ∷ map R.Link.link rows.old) (result ∷ map R.Link.link rows.new) (by_rank (map key rows.old) n (chain (head ∷ map R.Link.link rows.old))) (n ∷ chain (head ∷ map R.Link.link rows.old)) }
+    ensures becomes { Becomes (head ∷ map R.Link.link rows.old) (result ∷ map R.Link.link rows.new) (by_rank (map R.key rows.old) n (chain (head ∷ map R.Link.link rows.old))) (n ∷ chain (head ∷ map R.Link.link rows.old)) }
     ensures kept { Kept R.Link.relinked rows.old rows.new }
 {
     insert(rows, head, before, n)
@@ -251,7 +253,7 @@ pub fn put_by_rank<R: Ranked>(rows: &mut [R], head: u8, n: u8) -> u8
     requires ends { Ends (head ∷ map R.Link.link rows.old) }
     requires row { Row (length rows.old) n }
     requires outside { times n (chain (head ∷ map R.Link.link rows.old)) ≡ 0 }
-    ensures becomes { Becomes (head ∷ map R.Link.link rows.old) (result ∷ map R.Link.link rows.new) (by_rank (map key rows.old) n (chain (head ∷ map R.Link.link rows.old))) (n ∷ chain (head ∷ map R.Link.link rows.old)) }
+    ensures becomes { Becomes (head ∷ map R.Link.link rows.old) (result ∷ map R.Link.link rows.new) (by_rank (map R.key rows.old) n (chain (head ∷ map R.Link.link rows.old))) (n ∷ chain (head ∷ map R.Link.link rows.old)) }
     ensures kept { Kept R.Link.relinked rows.old rows.new }
 {
     let before = find_place(rows, head, n);

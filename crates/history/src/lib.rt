@@ -1,4 +1,6 @@
 // Histories: a kernel is opened, furnished and started, and calls are made of it.
+#![tactic(auto)]
+
 ghost use Rattle.std.specs.Prelude.{◌≡◌, IfOk, OnOk};
 ghost use Rattle.tables.specs.Moves.{fresh};
 ghost use Rattle.calls.specs.Steps.{start};

@@ -1,4 +1,6 @@
 // A kernel of 32 tasks and 64 packets in its three phases.
+#![tactic(auto)]
+
 pub mod furnishing;
 pub mod phases;
 pub mod started;

@@ -1,4 +1,6 @@
 // The tasks as rows for a caller to read.
+#![tactic(auto)]
+
 ghost use Rattle.std.specs.Prelude.{◌≡◌, ◌≤◌, true, ◌++◌, length, drop, is_some};
 ghost use Rattle.chain.specs.Chain.{Row};
 ghost use Rattle.tables.specs.Kept.{Kept};

@@ -1,4 +1,6 @@
 // The calls by which tasks claim, drop, send and wait for packets.
+#![tactic(auto)]
+
 ghost use Rattle.std.specs.Prelude.{◌≡◌, pos};
 ghost use Rattle.tables.specs.Running.{Greatest};
 ghost use Rattle.tables.specs.Kept.{Kept};

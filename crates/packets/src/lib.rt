@@ -1,4 +1,6 @@
 // The packets with the list of the free ones and the tasks' queues.
+#![tactic(auto)]
+
 ghost use Rattle.std.specs.Prelude.{◌≡◌, ◌-◌, ◌<◌, ◌≤◌, true, false, not, length, ◌==◌, slice_index, slice_index_or};
 ghost use Rattle.chain.specs.Chain.{Row, first};
 ghost use Rattle.packets.specs.declared.rows.Place.{Place};

@@ -1,4 +1,6 @@
 // Plays the script on standard input and prints its lines.
+#![tactic(auto)]
+
 use player::printed;
 use std::io;
 use std::io::Read;

@@ -1,4 +1,6 @@
 // Plays scripts of calls: the bytes of a script go in, a line of text for each record comes out.
+#![tactic(auto)]
+
 ghost use Rattle.std.specs.Prelude.{◌≡◌, IfOk, string_bytes};
 ghost use Rattle.kernel.specs.View.{state};
 ghost use Rattle.history.specs.History.{answers, after};

@@ -1,4 +1,6 @@
 // The tables of a kernel, and the moves on them.
+#![tactic(auto)]
+
 pub mod moves;
 pub mod queries;
 pub mod running;

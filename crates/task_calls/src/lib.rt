@@ -1,4 +1,6 @@
 // The calls by which tasks create, delete and change tasks.
+#![tactic(auto)]
+
 ghost use Rattle.std.specs.Prelude.{◌≡◌, ◌-◌, false, None as Nothing, bit_and};
 ghost use Rattle.chain.specs.Chain.{Row};
 ghost use Rattle.tasks.specs.View.{others_have};

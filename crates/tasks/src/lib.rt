@@ -1,4 +1,6 @@
 // The table of tasks, in the order of falling priority.
+#![tactic(auto)]
+
 ghost use Rattle.std.specs.Prelude.{◌≡◌, ℕ, true, false, is_some, Some, None};
 ghost use Rattle.chain.specs.Chain.{Row};
 ghost use Rattle.tasks.specs.Use.{has, other_has, numbers};

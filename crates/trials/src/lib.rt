@@ -1,4 +1,6 @@
 // Trials of the kernel. Here are the numbers by which they compare what it answers.
+#![tactic(auto)]
+
 ghost use Rattle.std.specs.Prelude.{◌≡◌};
 ghost use Rattle.trials.specs.Outcome.{outcome_number, outcome_numbers, answer_numbers, row_numbers, place_numbers, packet_numbers};
 

@@ -11,8 +11,8 @@ loop-at-init g c =
     let links = c.args.head ∷ map g.R.Link.link c.args.rows.now in
     ([], chain links, cut_none links c.requires.ends, past_none (map g.R.Ranked.key c.args.rows.now) c.args.n)
 
-pub rank-at-requires : goal.rank-at-requires
-rank-at-requires g c =
+pub rank_at-requires : goal.rank_at-requires
+rank_at-requires g c =
     let rows = c.args.rows.now in
     let o = cut_on (c.args.head ∷ map g.R.Link.link rows) _ _ _ _ c.loop-at.invariant.2 c.loop-at-test.true in
     (o.row.0, place_row rows g.R.Link.link c.args.head _ o.row.1)
@@ -39,11 +39,11 @@ loop-at-preserved g c =
       i.0 ++ (at ∷ []),
       o.more,
       subst (λ z. Cut links at z (i.0 ++ (at ∷ [])) o.more) (sym c.follower-at.ensures) o.cut,
-      past_more (map g.R.Ranked.key rows) c.args.n i.0 at i.3 (omega (arith, leb-true _ _ (sym c.if-goes-behind.ensures))),
+      past_more (map g.R.Ranked.key rows) c.args.n i.0 at i.3 (omega (arith, leb-true _ _ (sym c.if-goes_behind.ensures))),
     )
 
-pub returns-else-goes-behind : goal.returns-else-goes-behind
-returns-else-goes-behind g c =
+pub returns-else-goes_behind : goal.returns-else-goes_behind
+returns-else-goes_behind g c =
     let rows = c.args.rows.now in
     let links = c.args.head ∷ map g.R.Link.link rows in
     let i = c.loop-at.invariant in
@@ -52,7 +52,7 @@ returns-else-goes-behind g c =
       front = i.0;
       back = i.1;
       cut = subst (λ z. Cut links c.loop-at.before z i.0 i.1) i.2.at_is i.2;
-      put = past_here (map g.R.Ranked.key rows) c.args.n i.0 i.1 c.loop-at.at o.more i.3 o.back_is (omega (arith, leb-false _ _ (sym c.if-goes-behind.ensures)));
+      put = past_here (map g.R.Ranked.key rows) c.args.n i.0 i.1 c.loop-at.at o.more i.3 o.back_is (omega (arith, leb-false _ _ (sym c.if-goes_behind.ensures)));
     }
 
 pub returns-after-loop-at : goal.returns-after-loop-at

@@ -9,8 +9,8 @@ use Rattle.chain.proofs.rows_from.Goals as goal
 pub loop-at-init : goal.loop-at-init
 loop-at-init g c = let links = c.args.head ∷ map g.R.Link.link c.args.rows.now in (0, [], chain links, cut_none links c.requires.ends, refl)
 
-pub overflow-add-n : goal.overflow-add-n
-overflow-add-n g c =
+pub overflow_add-n : goal.overflow_add-n
+overflow_add-n g c =
     let rows = c.args.rows.now in
     let links = c.args.head ∷ map g.R.Link.link rows in
     let i = c.loop-at.invariant in
