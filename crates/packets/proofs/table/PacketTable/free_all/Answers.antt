@@ -4,8 +4,8 @@ use Rattle.packets.specs.View.{view, put_last}
 use Rattle.packets.proofs.Start.{off, more, all, stocked}
 use Rattle.packets.proofs.table.PacketTable.free_all.Goals as goal
 
-pub put-last-requires : goal.put-last-requires
-put-last-requires c =
+pub put_last-requires : goal.put_last-requires
+put_last-requires c =
     let n = c.loop-n.n in
     let s : suc (n - 1) ≡ n = omega arith in
     record { list = omega arith; row = (omega arith, omega arith); off = off _ (n - 1) n s c.loop-n-test.true c.loop-n.invariant; on = ap (λ p. stands p.place 0) c.blank.ensures }
@@ -15,7 +15,7 @@ loop-n-preserved c =
     let n = c.loop-n.n in
     let s : suc (n - 1) ≡ n = omega arith in
     let next : n ≡ n + 1 - 1 = omega arith in
-    let put = c.put-last.ensures ∙ ap (put_last (view c.loop-n.self) 0 n) c.blank.ensures in
+    let put = c.put_last.ensures ∙ ap (put_last (view c.loop-n.self) 0 n) c.blank.ensures in
     more _ _ (n - 1) n s c.loop-n.invariant put ∙ ap stocked next
 
 pub returns : goal.returns

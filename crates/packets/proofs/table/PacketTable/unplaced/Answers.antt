@@ -2,8 +2,8 @@ use Rattle.std.proofs.Common.{refl}
 use Rattle.packets.proofs.Start.{start, start_ends, start_placed}
 use Rattle.packets.proofs.table.PacketTable.unplaced.Goals as goal
 
-pub invariant-of-result : goal.invariant-of-result
-invariant-of-result c = ((refl, refl), (start_ends, (start_placed, tt)))
+pub invariant_of-result : goal.invariant_of-result
+invariant_of-result c = record { sized = (refl, refl); ends = start_ends; placed = start_placed }
 
 pub returns : goal.returns
 returns c = start

@@ -17,12 +17,12 @@ none_at : (x : Option Task) → in_use x ≡ 0 → (m n : ℕ) → in_use (task_
 none_at x e m zero = refl
 none_at x e m (suc n) = none_used x e m n
 
-pub invariant-of-result : goal.invariant-of-result
-invariant-of-result c =
+pub invariant_of-result : goal.invariant_of-result
+invariant_of-result c =
     let r = c.unused.result in
     let none = chain_none (0 ∷ map link (replicate 32 r)) refl in
     let spare = ap (λ z. in_use (held z)) c.unused.ensures in
-    (refl, (none.1, ((λ n. ap (times n) none.0 ∙ sym (none_at (held r) spare 32 n)), (ap (falling (map rank (replicate 32 (held r)))) none.0, tt))))
+    record { sized = refl; ends = none.1; holds = λ n. ap (times n) none.0 ∙ sym (none_at (held r) spare 32 n); falls = ap (falling (map rank (replicate 32 (held r)))) none.0 }
 
 pub returns : goal.returns
 returns c =

@@ -23,8 +23,8 @@ take-self-requires c =
     let used = some_used (task (view s) t) c.requires.used in
     record { ends = still_ends s t None row r is; inside = still_inside s t None row r is (omega arith) }
 
-pub invariant-of-self : goal.invariant-of-self
-invariant-of-self c =
+pub invariant_of-self : goal.invariant_of-self
+invariant_of-self c =
     let s = c.args.self.now in
     let t = c.args.t in
     let row = row_of s t c.requires.used in
@@ -34,7 +34,7 @@ invariant-of-self c =
     let becomes = take.ensures.becomes in
     let holds = removed_holds s t row r is take.new.rows take.result take.ensures.kept becomes.order in
     let falls = removed_falls s t row r is take.new.rows take.result take.ensures.kept becomes.order in
-    (take.auto.rows ∙ still_sized s t None row r is, (becomes.ends, (holds, (falls, tt))))
+    record { sized = take.auto.rows ∙ still_sized s t None row r is; ends = becomes.ends; holds = holds; falls = falls }
 
 pub returns : goal.returns
 returns c =

@@ -5,14 +5,14 @@ use Rattle.tasks.proofs.Numbers.{task_get, numbers_row, numbers_none}
 use Rattle.tasks.proofs.Links.{held}
 use Rattle.tasks.proofs.table.TaskTable.task.Goals as goal
 
-pub returns-then-is-number : goal.returns-then-is-number
-returns-then-is-number c =
+pub returns-then-is_number : goal.returns-then-is_number
+returns-then-is_number c =
     let rows = c.args.self.now.rows in
     let t = c.args.t in
-    let row = numbers_row t (sym c.if-is-number.ensures) in
+    let row = numbers_row t (sym c.if-is_number.ensures) in
     ap held c.row.ensures ∙ sym (task_get (map held rows) t row.0 ∙ get_or-map held rows (t - 1) empty)
 
-pub returns-else-is-number : goal.returns-else-is-number
-returns-else-is-number c =
+pub returns-else-is_number : goal.returns-else-is_number
+returns-else-is_number c =
     let s = c.args.self.now in
-    sym (numbers_none (map held s.rows) c.args.t (length-map s.rows held ∙ s.sized) (sym c.if-is-number.ensures))
+    sym (numbers_none (map held s.rows) c.args.t (length-map s.rows held ∙ s.sized) (sym c.if-is_number.ensures))
