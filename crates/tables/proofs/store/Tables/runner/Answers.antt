@@ -7,8 +7,8 @@ use Rattle.tables.specs.View.{view}
 use Rattle.tables.proofs.Runs.{greatest, running_bound, kept}
 use Rattle.tables.proofs.store.Tables.runner.Goals as goal
 
-pub first-runnable-requires : goal.first-runnable-requires
-first-runnable-requires c = let t = c.args.self.now.tasks in subst (Met t) (sym c.requires) (met_first t)
+pub first_runnable-requires : goal.first_runnable-requires
+first_runnable-requires c = let t = c.args.self.now.tasks in subst (Met t) (sym c.requires) (met_first t)
 
 pub returns : goal.returns
 returns c =
