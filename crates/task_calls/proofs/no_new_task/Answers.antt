@@ -21,9 +21,9 @@ returns-in-Some c =
 pub returns : goal.returns
 returns c =
     record {
-      asked = c.no-creation.ensures.asked ∙ first_no_past (view c.args.tables.now) caller_asks (furnish_asks c.args.task c.args.priority) c.in-default.ensures;
-      row = c.no-creation.ensures.row;
-      unused = c.no-creation.ensures.unused;
-      alone = c.no-creation.ensures.alone;
-      priority = c.no-creation.ensures.priority;
+      asked = c.no_creation.ensures.asked ∙ first_no_past (view c.args.tables.now) caller_asks (furnish_asks c.args.task c.args.priority) c.in_default.ensures;
+      row = c.no_creation.ensures.row;
+      unused = c.no_creation.ensures.unused;
+      alone = c.no_creation.ensures.alone;
+      priority = c.no_creation.ensures.priority;
     }
