@@ -9,7 +9,7 @@ pub returns : goal.returns
 returns c =
     let calls = c.args.calls.now in
     let begun = c.start-kernel.ensures ∙ ap start c.requires.room in
-    let made = c.in-ok-answers.ensures in
+    let made = c.in_ok-answers.ensures in
     record {
       replied = c.requires.replied;
       answered = made.answered ∙ ap (λ s. answers s calls) begun;

@@ -13,7 +13,7 @@ sound k = record { kept = started_kept k; greatest = started_greatest k }
 
 pub loop-call-init : goal.loop-call-init
 loop-call-init c =
-    let room = c.in-ok-gathered.ensures in
+    let room = c.in_ok-gathered.ensures in
     let s = state c.args.kernel.now in
     (room.len, room.capacity, room.items, refl, λ m l. (let z : m ≡ 0 = omega (arith, l) in subst (λ n. Sound (after s (take n c.args.calls.now))) (sym z) (sound c.args.kernel.now)), take_all _ _)
 
@@ -24,7 +24,7 @@ loop-call-preserved c =
     let called = c.call-answer.ensures.step in (
       omega arith,
       omega arith,
-      answers_more _ _ _ (Create 0 0) _ _ _ taken inv.3 called _ _ inv.2 c.push-reserved.ensures.items,
+      answers_more _ _ _ (Create 0 0) _ _ _ taken inv.3 called _ _ inv.2 c.push_reserved.ensures.items,
       after_more _ _ _ (Create 0 0) _ _ _ taken inv.3 called,
       sound_more _ _ _ (Create 0 0) _ _ _ taken inv.3 called inv.4 (sound c.call-answer.new.self),
       take_all _ _,

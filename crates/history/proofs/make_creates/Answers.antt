@@ -4,7 +4,7 @@ use Rattle.history.proofs.make_creates.Goals as goal
 
 pub loop-create-init : goal.loop-create-init
 loop-create-init c =
-    let room = c.in-ok-gathered.ensures in
+    let room = c.in_ok-gathered.ensures in
     (room.len, room.capacity, room.items, refl, take_all _ _)
 
 pub loop-create-preserved : goal.loop-create-preserved
@@ -14,7 +14,7 @@ loop-create-preserved c =
     let created = c.create-reply.ensures in (
       omega arith,
       omega arith,
-      replies_more _ _ _ (record { task = 0; priority = 0 }) _ _ _ taken inv.3 created _ _ inv.2 c.push-reserved.ensures.items,
+      replies_more _ _ _ (record { task = 0; priority = 0 }) _ _ _ taken inv.3 created _ _ inv.2 c.push_reserved.ensures.items,
       furnish_more _ _ _ (record { task = 0; priority = 0 }) _ _ _ taken inv.3 created,
       take_all _ _,
     )
