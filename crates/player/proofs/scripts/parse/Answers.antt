@@ -13,7 +13,7 @@ pub loop-rest-preserved : goal.loop-rest-preserved
 loop-rest-preserved c =
     let e : Ok (c.in-Ok.call, c.in-Ok.more.now) ≡ decoded c.loop-rest.rest.now = search rules in
     let some : 0 < length c.loop-rest.rest.now = search rules in
-    goes _ _ _ _ _ _ c.loop-rest.invariant some e c.in-ok-push.ensures.items
+    goes _ _ _ _ _ _ c.loop-rest.invariant some e c.in_ok-push-in-Ok.ensures.items
 
 pub returns-in-Err : goal.returns-in-Err
 returns-in-Err c =
