@@ -1,12 +1,12 @@
 -- Packets that go from list to list.
-use Rattle.std.proofs.Common.{◌≡◌, ℕ, zero, suc, ◌+◌, ◌-◌, ◌<◌, ◌≤◌, true, false, not, ◌&&◌, eqb, leb, ◌≢◌, ◌⊎◌, List, [], ◌∷◌, ◌++◌, map, length, get_or, set, sym, refl, ap, ◌∙◌, subst, ap₂, ⊎_elim, arith}
+use Rattle.std.proofs.Common.{◌≡◌, ℕ, zero, suc, ◌+◌, ◌-◌, ◌<◌, ◌≤◌, true, false, not, ◌&&◌, eqb, leb, ◌≢◌, List, [], ◌∷◌, ◌++◌, map, length, get_or, set, sym, refl, ap, ◌∙◌, subst, ap₂, ⊎_elim, arith}
 use mathlib.Core.List.{map-map}
 use lib.ListN
 use lib.ListN.{length-map}
 use Rattle.std.proofs.lemmas.List.{map-set, get_or-map, get_or-set_same, get_or-set_other, get_or_past}
 use Rattle.std.proofs.lemmas.Bool.{cases_eq, cases_lt, both_ways, cond-true, and_from, le-leb, eq-eqb, ne_eqb}
 use Rattle.chain.specs.Times.{times}
-use Rattle.chain.specs.Chain.{next, chain, Row, Becomes, Kept, first, tail}
+use Rattle.chain.specs.Chain.{chain, Row, Becomes, Kept, first, tail}
 use Rattle.chain.specs.Lists.{list as list_of, lists, AllEnd, Stand}
 use Rattle.chain.proofs.Times.{hit_same, hit_other, times-append}
 use Rattle.chain.proofs.Paths.{first_row as chain_first}

@@ -1,5 +1,5 @@
 -- The table of tasks as two lists: the tasks, and the order of those in use.
-use Rattle.std.specs.Prelude.{◌≡◌, ℕ, ◌-◌, ◌<◌, Bool, List, [], ◌∷◌, map, replicate, Some, None, Option, ◌≢◌, slice_set}
+use Rattle.std.specs.Prelude.{ℕ, ◌-◌, ◌<◌, Bool, List, [], ◌∷◌, map, replicate, Some, None, Option, ◌≢◌, slice_set}
 use Rattle.chain.specs.Times.{times}
 use Rattle.chain.specs.Chain.{chain, by_rank, without}
 use Rattle.tasks.specs.declared.rows.Task.{Task}
