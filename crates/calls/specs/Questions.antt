@@ -114,22 +114,19 @@ abbrev pub first_no : State → List Question → Option Refusal
 first_no s [] = None
 first_no s (q ∷ qs) = cond (yes s q) (first_no s qs) (Some (no q))
 
--- What a call of the running task asks first, and then if it names a task in use, or a packet that it has.
+-- What a call of the running task asks first, and then if it names a task in use.
 abbrev pub caller_asks : List Question
 caller_asks = task_runs ∷ runner_ready ∷ []
 
 abbrev pub task_asks : ℕ → List Question
 task_asks t = task_runs ∷ runner_ready ∷ task_known t ∷ []
 
-abbrev pub packet_asks : ℕ → List Question
-packet_asks n = task_runs ∷ runner_ready ∷ packet_known n ∷ packet_in_hands n ∷ []
-
 -- A task is created while the kernel is furnished: nobody calls, so it is not asked who does.
-abbrev pub furnish_asks : ℕ → ℕ → List Question
-furnish_asks t p = task_number t ∷ number_unused t ∷ priority_known p ∷ priority_alone t p ∷ []
-
 abbrev pub create_asks : ℕ → ℕ → List Question
-create_asks t p = task_runs ∷ runner_ready ∷ furnish_asks t p
+create_asks t p = task_number t ∷ number_unused t ∷ priority_known p ∷ priority_alone t p ∷ []
+
+abbrev pub create_call_asks : ℕ → ℕ → List Question
+create_call_asks t p = task_runs ∷ runner_ready ∷ create_asks t p
 
 abbrev pub delete_asks : ℕ → List Question
 delete_asks t = task_runs ∷ runner_ready ∷ task_known t ∷ task_idle t ∷ packets_home t ∷ []
@@ -153,7 +150,7 @@ abbrev pub claim_asks : List Question
 claim_asks = task_runs ∷ runner_ready ∷ packet_free ∷ []
 
 abbrev pub drop_asks : ℕ → List Question
-drop_asks n = packet_asks n
+drop_asks n = task_runs ∷ runner_ready ∷ packet_known n ∷ packet_in_hands n ∷ []
 
 -- A positive address is a task, as is 0; a negative one is the unit of the opposite sign.
 abbrev pub address_asks : ℤ → Question

@@ -11,7 +11,7 @@ use Rattle.calls.specs.declared.Answer.{Answer}
 use Rattle.calls.specs.declared.Call.{Call}
 use Rattle.calls.specs.declared.Call.TheVariants.{Create, Delete, ChangePriority, Hold, Release, SetFlags, TestFlags, Claim, Drop, Send, Wait}
 use Rattle.calls.specs.declared.Refusal.{Refusal}
-use Rattle.calls.specs.Questions.{Question, first_no, furnish_asks, create_asks, delete_asks, priority_asks, hold_asks, release_asks, set_flags_asks, test_flags_asks, claim_asks, drop_asks, send_asks, wait_asks}
+use Rattle.calls.specs.Questions.{Question, first_no, create_asks, create_call_asks, delete_asks, priority_asks, hold_asks, release_asks, set_flags_asks, test_flags_asks, claim_asks, drop_asks, send_asks, wait_asks}
 
 -- The answer names the task that runs in the state that the call leaves.
 abbrev pub answered : State → Result ℕ Refusal → State × Answer
@@ -51,7 +51,7 @@ clear_flags s t bits = set_flags s t (flags_of (task s t) - flags_among s t bits
 
 -- What each call asks, in order.
 abbrev pub asks : Call → List Question
-asks (Create t p) = create_asks t p
+asks (Create t p) = create_call_asks t p
 asks (Delete t) = delete_asks t
 asks (ChangePriority t p) = priority_asks t p
 asks (Hold t) = hold_asks t
@@ -92,7 +92,7 @@ create_decided s None s' = (s', Ok tt)
 
 -- Furnishing creates tasks: dormant, not held, flags 0.
 abbrev pub create : State → ℕ → ℕ → State × Result (Unit {0}) Refusal
-create s t p = create_decided s (first_no s (furnish_asks t p)) (add_task s t p)
+create s t p = create_decided s (first_no s (create_asks t p)) (add_task s t p)
 
 -- Starting makes the task of greatest priority ready, if there is one.
 abbrev pub start : State → State

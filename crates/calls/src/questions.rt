@@ -5,7 +5,7 @@ ghost use Rattle.packets.specs.Places.{handed};
 ghost use Rattle.tasks.specs.View.{others_have};
 ghost use Rattle.tables.specs.State.{task as task_at, used as in_use, packet as packet_at};
 ghost use Rattle.tables.specs.View.{view};
-ghost use Rattle.calls.specs.Questions.{first_no, yes, task_runs, runner_ready, task_known, packet_in_hands, hands_of, caller_asks, task_asks, packet_asks, furnish_asks};
+ghost use Rattle.calls.specs.Questions.{first_no, yes, task_runs, runner_ready, task_known, packet_in_hands, hands_of, caller_asks, task_asks, drop_asks, create_asks};
 
 use crate::Refusal;
 use packets::rows::Place;
@@ -86,7 +86,7 @@ pub fn no_task(tables: &Tables, task: u32) -> Option<Refusal>
 
 // Why the running task may not hand on the packet, if it may not: questions 1, 2, 5 and 6.
 pub fn no_packet(tables: &Tables, packet: u32) -> Option<Refusal>
-    ensures asked { result ≡ first_no (view tables.now) (packet_asks packet) }
+    ensures asked { result ≡ first_no (view tables.now) (drop_asks packet) }
     ensures row { result ≡ Nothing → Row 64 packet }
     ensures off { result ≡ Nothing → handed (packet_at (view tables.now) packet).place ≡ true }
 {
@@ -104,7 +104,7 @@ pub fn no_packet(tables: &Tables, packet: u32) -> Option<Refusal>
 
 // Why the task may not be created, if it may not: questions 3 (the range alone), 9, 7 and 8.
 pub fn no_creation(tables: &Tables, task: u32, priority: u32) -> Option<Refusal>
-    ensures asked { result ≡ first_no (view tables.now) (furnish_asks task priority) }
+    ensures asked { result ≡ first_no (view tables.now) (create_asks task priority) }
     ensures row { result ≡ Nothing → Row 32 task }
     ensures unused { result ≡ Nothing → task_at (view tables.now) task ≡ Nothing }
     ensures alone { result ≡ Nothing → others_have (view tables.now).tasks task priority ≡ false }

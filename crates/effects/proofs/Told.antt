@@ -14,7 +14,7 @@ use Rattle.tables.specs.Running.{running}
 use Rattle.tables.specs.Moves.{in_hands_of, new_task, in_condition, with_held, with_flags, take_free, put_free, to_queue, take_queued, add_task, remove_task, set_condition, set_held, set_flags, set_priority}
 use Rattle.tables.specs.Kept.{Kept}
 use Rattle.calls.specs.declared.Call.TheVariants.{Create, Delete, ChangePriority, Hold, Release, SetFlags, TestFlags, Claim, Drop, Send, Wait}
-use Rattle.calls.specs.Questions.{number_unused, packets_home, yes, create_asks, delete_asks, priority_asks, hold_asks, release_asks, set_flags_asks, test_flags_asks, claim_asks, drop_asks, send_asks, wait_asks, task_known, task_runs, task_idle, packet_in_hands}
+use Rattle.calls.specs.Questions.{number_unused, packets_home, yes, create_call_asks, delete_asks, priority_asks, hold_asks, release_asks, set_flags_asks, test_flags_asks, claim_asks, drop_asks, send_asks, wait_asks, task_known, task_runs, task_idle, packet_in_hands}
 use Rattle.calls.specs.Steps.{waited, flags_of, add_flags, flags_among, clear_flags}
 use Rattle.effects.specs.Told.{Created, Deleted, Reranked, Held, Flagged, Tested, Claimed, Dropped, Sent, Took, Waits, Told, CallsDoAsTold}
 use Rattle.effects.proofs.Writes.{packet_becomes, list_same, queues_but, split, first_packet, no_task, task_becomes, rewritten_changes, rewritten_packets, reranked_becomes, reranked_packets}
@@ -148,7 +148,7 @@ module _ (s : State) (k : Kept s) (t : ℕ) (r : Row 32 t) (u : used s t ≡ tru
 
 pub calls_do_as_told : CallsDoAsTold
 calls_do_as_told s k (Create t p) =
-    by_questions s (create_asks t p) (add_task s t p, 0) (Told s (Create t p)) (λ r. refl)
+    by_questions s (create_call_asks t p) (add_task s t p, 0) (Told s (Create t p)) (λ r. refl)
     (λ a. (refl, created s k t p (in_range 1 32 t a.1.1.0) a.1.1.1.0))
 calls_do_as_told s k (Delete t) =
     by_questions s (delete_asks t) (remove_task s t, 0) (Told s (Delete t)) (λ r. refl)

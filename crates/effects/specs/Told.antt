@@ -43,6 +43,10 @@ pub record TaskChanges (s s' : State) (t : ℕ) (f : Task → Task) : Type 0 whe
   pub others : (u : ℕ) → (u ≢ t) → task s' u ≡ task s u
   pub order : s'.order ≡ s.order
 
+-- Task t is in that condition now, and the same otherwise; every other task is as it was.
+abbrev pub ConditionBecomes : State → State → ℕ → Condition → Type 0
+ConditionBecomes s s' t c = TaskChanges s s' t (in_condition c)
+
 -- Task t was not in use, and is now: dormant, not held, flags 0.
 pub record Created (s s' : State) (t p : ℕ) : Type 0 where
   pub spare : task s t ≡ None
@@ -115,7 +119,7 @@ pub record Took (s s' : State) (t v : ℕ) : Type 0 where
   pub packet : PacketBecomes s s' v (in_hands_of t (packet s v))
   pub queues : QueuesBut s s' t
   pub known : used s t ≡ true
-  pub task : TaskChanges s s' t (in_condition Condition.Ready)
+  pub task : ConditionBecomes s s' t Condition.Ready
 
 -- Task t is waiting, and no packet and no list has changed.
 pub record Waits (s s' : State) (t v : ℕ) : Type 0 where
@@ -123,7 +127,7 @@ pub record Waits (s s' : State) (t v : ℕ) : Type 0 where
   pub packets : s'.packets ≡ s.packets
   pub lists : s'.lists ≡ s.lists
   pub known : used s t ≡ true
-  pub task : TaskChanges s s' t (in_condition Condition.Waiting)
+  pub task : ConditionBecomes s s' t Condition.Waiting
 
 abbrev pub Told : State → Call → Result ℕ Refusal → State → Type 0
 Told s c (Err r) s' = s' ≡ s

@@ -15,7 +15,7 @@ use Rattle.tables.specs.State.{State, task, used, packet, queue}
 use Rattle.tables.specs.Moves as moves
 use Rattle.tables.specs.Kept.{Kept}
 use Rattle.calls.specs.declared.Refusal.{Refusal}
-use Rattle.calls.specs.Questions.{first_no, furnish_asks}
+use Rattle.calls.specs.Questions.{first_no, create_asks}
 use Rattle.calls.specs.Steps.{create_decided, start}
 use Rattle.effects.proofs.Writes.{task_becomes, task_changes}
 use Rattle.effects.proofs.Asked.{all_yes, in_range}
@@ -100,8 +100,8 @@ one_create s j c cs l m on None row =
 pub furnish_matches : (s : State) (j : Journal) → length s.tasks ≡ 32 → Matches s j → (cs : List Creation) → Furnished s j cs
 furnish_matches s j l m [] = (l, m)
 furnish_matches s j l m (c ∷ cs) =
-    one_create s j c cs l m (λ s' j' l' m'. furnish_matches s' j' l' m' cs) (first_no s (furnish_asks c.task c.priority))
-    (λ e. in_range 1 32 c.task (all_yes s (furnish_asks c.task c.priority) e).0)
+    one_create s j c cs l m (λ s' j' l' m'. furnish_matches s' j' l' m' cs) (first_no s (create_asks c.task c.priority))
+    (λ e. in_range 1 32 c.task (all_yes s (create_asks c.task c.priority) e).0)
 
 -- ---- starting
 

@@ -9,7 +9,7 @@ use Rattle.tasks.specs.Use as UseOf
 use Rattle.tables.specs.State.{State, task, queue}
 use Rattle.tables.specs.Running as kernel
 use Rattle.tables.specs.Kept.{Kept}
-use Rattle.history.specs.Journal.{Journal, rank, may_run, runnable, greatest, runs, queued_among}
+use Rattle.history.specs.Journal.{Journal, rank, may_run, runnable, greatest, queued_among}
 use Rattle.history.specs.Law.{note, Tasks, Running}
 use Rattle.history.proofs.Places.{Says}
 use Rattle.history.proofs.Queued.{queued_is}

@@ -1,5 +1,5 @@
 -- What one more create or call adds to a history.
-use Rattle.std.proofs.Common.{◌≡◌, ℕ, ◌+◌, ◌<◌, ◌≤◌, List, [], ◌∷◌, ◌++◌, length, get_or, take, Result, sym, refl, ap, ◌∙◌, subst, ⊎_elim, arith}
+use Rattle.std.proofs.Common.{◌≡◌, ℕ, suc, ◌+◌, ◌<◌, ◌≤◌, List, [], ◌∷◌, ◌++◌, length, get_or, take, Result, sym, refl, ap, ◌∙◌, subst, ⊎_elim, arith}
 use Rattle.std.proofs.lemmas.List.{take_more}
 use Rattle.calls.specs.declared.Answer.{Answer}
 use Rattle.calls.specs.declared.Call.{Call}
@@ -11,11 +11,15 @@ use Rattle.history.specs.declared.creations.Creation.{Creation}
 use Rattle.history.specs.Sound.{Sound}
 use Rattle.history.specs.History.{replies, furnish, answers, after}
 
-answers-append : (s : State) (calls more : List Call) → answers s (calls ++ more) ≡ answers s calls ++ answers (after s calls) more
+pub length_answers : (s : State) (calls : List Call) → length (answers s calls) ≡ length calls
+length_answers s [] = refl
+length_answers s (call ∷ calls) = ap suc (length_answers (step s call).0 calls)
+
+pub answers-append : (s : State) (calls more : List Call) → answers s (calls ++ more) ≡ answers s calls ++ answers (after s calls) more
 answers-append s [] more = refl
 answers-append s (call ∷ calls) more = ap (λ l. (step s call).1 ∷ l) (answers-append (step s call).0 calls more)
 
-after-append : (s : State) (calls more : List Call) → after s (calls ++ more) ≡ after (after s calls) more
+pub after-append : (s : State) (calls more : List Call) → after s (calls ++ more) ≡ after (after s calls) more
 after-append s [] more = refl
 after-append s (call ∷ calls) more = after-append (step s call).0 calls more
 

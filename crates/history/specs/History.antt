@@ -1,5 +1,5 @@
 -- What creates and then calls, made in order, are answered, and the states that they lead to.
-use Rattle.std.specs.Prelude.{List, [], ◌∷◌, Result}
+use Rattle.std.specs.Prelude.{◌≡◌, List, [], ◌∷◌, ◌++◌, length, Result}
 use Rattle.calls.specs.declared.Answer.{Answer}
 use Rattle.calls.specs.declared.Call.{Call}
 use Rattle.calls.specs.declared.Refusal.{Refusal}
@@ -35,3 +35,9 @@ after s (call ∷ calls) = after (step s call).0 calls
 abbrev pub states : State → List Call → List State
 states s [] = []
 states s (call ∷ calls) = (step s call).0 ∷ states (step s call).0 calls
+
+-- A history may be cut anywhere: its second part goes on from the state that its first part leads to.
+pub record Parts : Type 0 where
+  pub each : (s : State) (calls : List Call) → length (answers s calls) ≡ length calls
+  pub answered : (s : State) (calls more : List Call) → answers s (calls ++ more) ≡ answers s calls ++ answers (after s calls) more
+  pub moved : (s : State) (calls more : List Call) → after s (calls ++ more) ≡ after (after s calls) more

@@ -1,11 +1,11 @@
 // Histories: a kernel is opened, furnished and started, and calls are made of it.
 #![tactic(auto)]
 
-ghost use Rattle.std.specs.Prelude.{◌≡◌, IfOk, OnOk};
+ghost use Rattle.std.specs.Prelude.{◌≡◌, is_ok, IfOk, OnOk, if◌then◌else◌};
 ghost use Rattle.tables.specs.Moves.{fresh};
 ghost use Rattle.calls.specs.Steps.{start};
 ghost use Rattle.kernel.specs.View.{furnished, state};
-ghost use Rattle.history.specs.History.{replies, furnish, answers, after};
+ghost use Rattle.history.specs.History.{replies, furnish, answers, after, Parts};
 ghost use Rattle.history.specs.Law.{Law};
 ghost use Rattle.history.specs.Sound.{SoundAlong};
 
@@ -34,18 +34,19 @@ fn make_creates(
     ensures replied { IfOk result (λ v. v.items ≡ replies (furnished room.old) creates.now) }
     ensures furnished { OnOk result (furnished room.new ≡ furnish (furnished room.old) creates.now) }
 {
-    let mut gathered = Vec::with_capacity(heap, creates.len())?;
+    let mut collected = Vec::with_capacity(heap, creates.len())?;
     for create in creates {
         let reply = room.create(create.task, create.priority);
-        gathered.push_reserved(reply);
+        collected.push_reserved(reply);
     }
-    Ok(gathered)
+    Ok(collected)
 }
 
-// Makes the calls in order.
-fn make_calls(kernel: &mut Started, calls: &[Call], heap: Global) -> Result<Vec<Answer>, AllocError>
+// Makes the calls in order and keeps their answers. Room for every answer is taken before the first call, so want of memory is met with
+// no call made.
+pub fn run(kernel: &mut Started, calls: &[Call], heap: Global) -> Result<Vec<Answer>, AllocError>
     ensures answered { IfOk result (λ v. v.items ≡ answers (state kernel.old) calls.now) }
-    ensures moved { OnOk result (state kernel.new ≡ after (state kernel.old) calls.now) }
+    ensures moved { state kernel.new ≡ (if is_ok result then after (state kernel.old) calls.now else state kernel.old) }
     ensures sound { OnOk result (SoundAlong (state kernel.old) calls.now) }
 {
     let mut gathered = Vec::with_capacity(heap, calls.len())?;
@@ -72,7 +73,7 @@ fn from_start(
     ensures law { IfOk result (λ h. Law creates.now h.replies.items calls.now h.answers.items (state h.kernel)) }
 {
     let mut kernel = room.start();
-    let answers = make_calls(&mut kernel, calls, heap)?;
+    let answers = run(&mut kernel, calls, heap)?;
     Ok(History {
         kernel,
         replies: given,
@@ -81,7 +82,11 @@ fn from_start(
 }
 
 // Opens a kernel, makes the creates, starts it, and makes the calls. Want of memory is an error that loses nothing of the caller's.
-pub fn run(creates: &[Creation], calls: &[Call], heap: Global) -> Result<History, AllocError>
+pub fn run_from_opening(
+    creates: &[Creation],
+    calls: &[Call],
+    heap: Global,
+) -> Result<History, AllocError>
     ensures replied { IfOk result (λ h. h.replies.items ≡ replies fresh creates.now) }
     ensures answered { IfOk result (λ h. h.answers.items ≡ answers (start (furnish fresh creates.now)) calls.now) }
     ensures left { IfOk result (λ h. state h.kernel ≡ after (start (furnish fresh creates.now)) calls.now) }
@@ -90,4 +95,11 @@ pub fn run(creates: &[Creation], calls: &[Call], heap: Global) -> Result<History
     let mut room = open();
     let replies = make_creates(&mut room, creates, heap)?;
     from_start(room, creates, replies, calls, heap)
+}
+
+// One answer to each call, and a history may be made in parts.
+pub fn histories_have_parts() -> u8
+    ensures { Parts }
+{
+    0
 }

@@ -35,7 +35,7 @@ fn session(calls: &[Call], heap: Global) -> Result<History, AllocError>
             priority: 200,
         },
     ];
-    history::run(&creates, calls, heap)
+    history::run_from_opening(&creates, calls, heap)
 }
 
 // A line for each call of the script, and a last one for a bad record.

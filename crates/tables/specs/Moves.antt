@@ -72,8 +72,12 @@ abbrev pub rewritten : State → ℕ → (Task → Task) → Option Task → Sta
 rewritten s t f None = s
 rewritten s t f (Some x) = with_tasks s (written (task_part s) t (f x))
 
+-- Task t gets another condition; a number that is not in use stays so.
+abbrev pub recondition : State → ℕ → Condition → Option Task → State
+recondition s t c x = rewritten s t (in_condition c) x
+
 abbrev pub set_condition : State → ℕ → Condition → State
-set_condition s t c = rewritten s t (in_condition c) (task s t)
+set_condition s t c = recondition s t c (task s t)
 
 abbrev pub set_held : State → ℕ → Bool → State
 set_held s t h = rewritten s t (with_held h) (task s t)

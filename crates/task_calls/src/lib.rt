@@ -9,7 +9,7 @@ ghost use Rattle.tables.specs.Running.{Greatest};
 ghost use Rattle.tables.specs.Kept.{Kept};
 ghost use Rattle.tables.specs.View.{view};
 ghost use Rattle.calls.specs.declared.Call.TheVariants.{Create as create_call, Delete as delete_call, ChangePriority as priority_call, Hold as hold_call, Release as release_call, SetFlags as set_call, TestFlags as test_call};
-ghost use Rattle.calls.specs.Questions.{first_no, create_asks, yes, task_held, task_idle, task_dormant};
+ghost use Rattle.calls.specs.Questions.{first_no, create_call_asks, yes, task_held, task_idle, task_dormant};
 ghost use Rattle.calls.specs.Steps.{Steps, flags_of};
 
 use calls::answers::{done, refused};
@@ -67,7 +67,7 @@ fn cleared(flags: u32, bits: u32) -> u32
 
 // Why the running task may not create the task, if it may not: questions 1, 2, 3 (the range alone), 9, 7 and 8.
 fn no_new_task(tables: &Tables, task: u32, priority: u32) -> Option<Refusal>
-    ensures asked { result ≡ first_no (view tables.now) (create_asks task priority) }
+    ensures asked { result ≡ first_no (view tables.now) (create_call_asks task priority) }
     ensures row { result ≡ Nothing → Row 32 task }
     ensures unused { result ≡ Nothing → task_at (view tables.now) task ≡ Nothing }
     ensures alone { result ≡ Nothing → others_have (view tables.now).tasks task priority ≡ false }

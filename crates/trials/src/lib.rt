@@ -75,3 +75,70 @@ pub fn packet_numbers(packet: Packet) -> ((u8, u8), i32, u32, u32, u32)
         packet.second,
     )
 }
+
+#[cfg(test)]
+mod tests {
+    use super::*;
+    use calls::Call;
+    use kernel::furnishing::open;
+
+    #[test]
+    fn task_numbers_end_at_32(rt: HostRuntime) {
+        let mut room = open();
+        assert_eq!(rt; outcome_number(room.create(0, 1)), 3);
+        assert_eq!(rt; outcome_number(room.create(33, 1)), 3);
+        assert_eq!(rt; outcome_number(room.create(4294967295, 1)), 3);
+        assert_eq!(rt; outcome_number(room.create(32, 1)), 0);
+        assert_eq!(rt; outcome_number(room.create(1, 2)), 0);
+    }
+
+    #[test]
+    fn priorities_end_at_65535(rt: HostRuntime) {
+        let mut room = open();
+        assert_eq!(rt; outcome_number(room.create(1, 0)), 7);
+        assert_eq!(rt; outcome_number(room.create(1, 65536)), 7);
+        assert_eq!(rt; outcome_number(room.create(1, 65535)), 0);
+        assert_eq!(rt; outcome_number(room.create(2, 1)), 0);
+    }
+
+    #[test]
+    fn numbers_and_priorities_are_given_once(rt: HostRuntime) {
+        let mut room = open();
+        assert_eq!(rt; outcome_number(room.create(5, 10)), 0);
+        assert_eq!(rt; outcome_number(room.create(6, 10)), 8);
+        assert_eq!(rt; outcome_number(room.create(5, 11)), 9);
+        assert_eq!(rt; outcome_number(room.create(6, 11)), 0);
+    }
+
+    #[test]
+    fn create_asks_in_order(rt: HostRuntime) {
+        let mut room = open();
+        assert_eq!(rt; outcome_number(room.create(5, 10)), 0);
+        assert_eq!(rt; outcome_number(room.create(33, 0)), 3);
+        assert_eq!(rt; outcome_number(room.create(5, 0)), 9);
+        assert_eq!(rt; outcome_number(room.create(6, 0)), 7);
+    }
+
+    #[test]
+    fn without_a_task_none_runs(rt: HostRuntime) {
+        let mut kernel = open().start();
+        assert_eq!(rt; kernel.running(), 0);
+        let answer = kernel.call(Call::Claim);
+        assert_eq!(rt; answer.running, 0);
+        assert!(rt; matches!(answer.outcome, Err(Refusal::NoTaskRunning)));
+    }
+
+    #[test]
+    fn the_greatest_priority_runs(rt: HostRuntime) {
+        let mut room = open();
+        let _ = room.create(7, 300);
+        let _ = room.create(31, 65535);
+        let _ = room.create(3, 1);
+        let mut kernel = room.start();
+        assert_eq!(rt; kernel.running(), 31);
+        let answer = kernel.wait();
+        assert_eq!(rt; answer.running, 0);
+        let stopped = kernel.stop();
+        let _ = stopped;
+    }
+}

@@ -4,7 +4,7 @@ use Rattle.history.proofs.make_creates.Goals as goal
 
 pub loop-create-init : goal.loop-create-init
 loop-create-init c =
-    let room = c.in_ok-gathered.ensures in
+    let room = c.in_ok-collected.ensures in
     (room.len, room.capacity, room.items, refl, take_all _ _)
 
 pub loop-create-preserved : goal.loop-create-preserved
