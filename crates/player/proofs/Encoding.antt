@@ -39,13 +39,13 @@ long (Send address packet kind first second) rest = le-ltb (length (encoded (Sen
 long Wait rest = le-ltb (length (encoded Wait ++ rest)) 24 (omega arith)
 
 one_back : (call : Call) (rest : List ℕ) → Fitting call → decoded (encoded call ++ rest) ≡ Ok (call, rest)
-one_back (Create task priority) rest h = cond-false _ _ _ (long (Create task priority) rest) ∙ (λ j. Ok (Create (word_back task h.0 j) (word_back priority h.1 j), rest))
-one_back (Delete task) rest h = cond-false _ _ _ (long (Delete task) rest) ∙ (λ j. Ok (Delete (word_back task h j), rest))
-one_back (ChangePriority task priority) rest h = cond-false _ _ _ (long (ChangePriority task priority) rest) ∙ (λ j. Ok (ChangePriority (word_back task h.0 j) (word_back priority h.1 j), rest))
-one_back (Hold task) rest h = cond-false _ _ _ (long (Hold task) rest) ∙ (λ j. Ok (Hold (word_back task h j), rest))
-one_back (Release task) rest h = cond-false _ _ _ (long (Release task) rest) ∙ (λ j. Ok (Release (word_back task h j), rest))
-one_back (SetFlags task bits) rest h = cond-false _ _ _ (long (SetFlags task bits) rest) ∙ (λ j. Ok (SetFlags (word_back task h.0 j) (word_back bits h.1 j), rest))
-one_back (TestFlags bits) rest h = cond-false _ _ _ (long (TestFlags bits) rest) ∙ (λ j. Ok (TestFlags (word_back bits h j), rest))
+one_back (Create task priority) rest h = absurd h
+one_back (Delete task) rest h = absurd h
+one_back (ChangePriority task priority) rest h = absurd h
+one_back (Hold task) rest h = absurd h
+one_back (Release task) rest h = absurd h
+one_back (SetFlags task bits) rest h = absurd h
+one_back (TestFlags bits) rest h = absurd h
 one_back Claim rest h = cond-false _ _ _ (long Claim rest)
 one_back (Drop packet) rest h = cond-false _ _ _ (long (Drop packet) rest) ∙ (λ j. Ok (Drop (word_back packet h j), rest))
 one_back (Send address packet kind first second) rest h =

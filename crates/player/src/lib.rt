@@ -3,7 +3,6 @@
 
 ghost use Rattle.std.specs.Prelude.{◌≡◌, IfOk, string_bytes};
 ghost use Rattle.kernel.specs.View.{state};
-ghost use Rattle.history.specs.History.{answers, after};
 ghost use Rattle.player.specs.Encoded.{ReadsBack};
 ghost use Rattle.player.specs.Played.{opening, played};
 ghost use Rattle.player.specs.Printed.{text};
@@ -13,29 +12,20 @@ pub mod lines;
 pub mod records;
 pub mod scripts;
 
-use calls::Call;
-use history::History;
-use history::creations::Creation;
+use kernel::furnishing::open;
+use kernel::phases::Started;
 use lines::{Line, answer_lines, with_last};
 use scripts::parse;
 use std::alloc::{AllocError, Global};
 
-// Task 1 at priority 100 and task 2 at priority 200; then the calls. Neither create is refused: `sample_session_prints` computes that.
-fn session(calls: &[Call], heap: Global) -> Result<History, AllocError>
-    ensures answered { IfOk result (λ h. h.answers.items ≡ answers opening calls.now) }
-    ensures left { IfOk result (λ h. state h.kernel ≡ after opening calls.now) }
+// Neither create is refused: `sample_session_prints` computes that.
+fn furnish() -> Started
+    ensures { state result ≡ opening }
 {
-    let creates = [
-        Creation {
-            task: 1,
-            priority: 100,
-        },
-        Creation {
-            task: 2,
-            priority: 200,
-        },
-    ];
-    history::run_from_opening(&creates, calls, heap)
+    let mut room = open();
+    let _ = room.create(1, 100);
+    let _ = room.create(2, 200);
+    room.start()
 }
 
 // A line for each call of the script, and a last one for a bad record.
@@ -43,9 +33,10 @@ pub fn play(bytes: &[u8], heap: Global) -> Result<Vec<Line>, AllocError>
     ensures { IfOk result (λ v. v.items ≡ played bytes.now) }
 {
     let script = parse(bytes, heap)?;
-    let history = session(&script.calls, heap)?;
-    let lines = answer_lines(&script.calls, &history.answers, heap)?;
-    with_last(lines, script.fault, history.kernel.running())
+    let mut kernel = furnish();
+    let answers = history::run(&mut kernel, &script.calls, heap)?;
+    let lines = answer_lines(&script.calls, &answers, heap)?;
+    with_last(lines, script.fault, kernel.running())
 }
 
 // The lines as text.

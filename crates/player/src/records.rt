@@ -53,31 +53,7 @@ fn call_in(code: u8, spare: u8, words: &[u8]) -> Result<Call, BadRecord>
     ensures { result ≡ with_spare spare (call_of code words.now) }
 {
     match code {
-        1..=10 | 12 if spare != 0 => Err(BadRecord::Spare),
-        1 => Ok(Call::Create {
-            task: word_at(words, 0),
-            priority: word_at(words, 1),
-        }),
-        2 => Ok(Call::Delete {
-            task: word_at(words, 0),
-        }),
-        3 => Ok(Call::ChangePriority {
-            task: word_at(words, 0),
-            priority: word_at(words, 1),
-        }),
-        4 => Ok(Call::Hold {
-            task: word_at(words, 0),
-        }),
-        5 => Ok(Call::Release {
-            task: word_at(words, 0),
-        }),
-        6 => Ok(Call::SetFlags {
-            task: word_at(words, 0),
-            bits: word_at(words, 1),
-        }),
-        7 => Ok(Call::TestFlags {
-            bits: word_at(words, 0),
-        }),
+        8..=10 | 12 if spare != 0 => Err(BadRecord::Spare),
         8 => Ok(Call::Claim),
         9 => Ok(Call::Drop {
             packet: word_at(words, 0),
