@@ -42,9 +42,8 @@ fn make_creates(
     Ok(collected)
 }
 
-// Makes the calls in order and keeps their answers. Room for every answer is taken before the first call, so want of memory is met with
-// no call made.
-pub fn run(kernel: &mut Started, calls: &[Call], heap: Global) -> Result<Vec<Answer>, AllocError>
+// Makes the calls in order. Room for every answer is taken before the first call.
+fn make_calls(kernel: &mut Started, calls: &[Call], heap: Global) -> Result<Vec<Answer>, AllocError>
     ensures answered { IfOk result (λ v. v.items ≡ answers (state kernel.old) calls.now) }
     ensures moved { state kernel.new ≡ (if is_ok result then after (state kernel.old) calls.now else state kernel.old) }
     ensures sound { OnOk result (SoundAlong (state kernel.old) calls.now) }
@@ -55,6 +54,15 @@ pub fn run(kernel: &mut Started, calls: &[Call], heap: Global) -> Result<Vec<Ans
         gathered.push_reserved(answer);
     }
     Ok(gathered)
+}
+
+// Makes the calls in order and keeps their answers. Where memory is wanting, no call was made.
+pub fn run(kernel: &mut Started, calls: &[Call], heap: Global) -> Result<Vec<Answer>, AllocError>
+    ensures answered { IfOk result (λ v. v.items ≡ answers (state kernel.old) calls.now) }
+    ensures moved { state kernel.new ≡ (if is_ok result then after (state kernel.old) calls.now else state kernel.old) }
+    ensures sound { OnOk result (SoundAlong (state kernel.old) calls.now) }
+{
+    make_calls(kernel, calls, heap)
 }
 
 // Starts a kernel that the creates have furnished, and makes the calls.

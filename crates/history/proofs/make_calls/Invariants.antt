@@ -2,7 +2,7 @@ use Rattle.std.proofs.Common.{◌≡◌, ℕ, ◌≤◌, length, take, vec_items
 use Rattle.kernel.specs.View.{state}
 use Rattle.history.specs.History.{answers, after}
 use Rattle.history.specs.Sound.{Sound}
-use Rattle.history.proofs.run.Given as goal
+use Rattle.history.proofs.make_calls.Given as goal
 
 -- there is room for every call, the calls so far are made and answered, the states so far are sound, and at the end those are all
 abbrev pub invariant-loop-call : goal.invariant-loop-call

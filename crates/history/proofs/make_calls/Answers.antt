@@ -6,7 +6,7 @@ use Rattle.kernel.proofs.Sound.{started_kept, started_greatest}
 use Rattle.history.specs.Sound.{Sound}
 use Rattle.history.specs.History.{after}
 use Rattle.history.proofs.Turns.{answers_more, after_more, sound_more}
-use Rattle.history.proofs.run.Goals as goal
+use Rattle.history.proofs.make_calls.Goals as goal
 
 sound : (k : Started) → Sound (state k)
 sound k = record { kept = started_kept k; greatest = started_greatest k }
