@@ -2,7 +2,7 @@
 use Rattle.std.proofs.Common.{◌≡◌, ℕ, ◌+◌, ◌*◌, ◌/◌, ◌%◌, ◌^◌, ◌<◌, false, ltb, List, [], ◌∷◌, ◌++◌, length, None, Ok, sym, ap, ◌∙◌, mod-eq_of_lt, arith, to_z-of_z, w32, to_z, of_z}
 use native.Mathlib.Nat.{div-div-eq-div-mul}
 use mir.Facts.{Fits-of_z, Fits-lt-pow}
-use Rattle.std.specs.List.{flat_map, AllByRecursion as All}
+use Rattle.std.specs.List.{flat_map, AllByRecursion}
 use Rattle.std.proofs.lemmas.Bool.{le-ltb, ltb-false, cond-false}
 use Rattle.calls.specs.declared.Call.{Call}
 use Rattle.calls.specs.declared.Call.TheVariants.{Create, Delete, ChangePriority, Hold, Release, SetFlags, TestFlags, Claim, Drop, Send, Wait}
@@ -55,7 +55,7 @@ one_back (Send address packet kind first second) rest h =
     ∙ (λ j. Ok (Send (back j) (word_back packet h.1 j) (word_back kind h.2 j) (word_back first h.3 j) (word_back second h.4 j), rest))
 one_back Wait rest h = cond-false _ _ _ (long Wait rest)
 
-pub reads_back : (calls : List Call) → All Fitting calls → parsed (flat_map encoded calls) ≡ (calls, None)
+pub reads_back : (calls : List Call) → AllByRecursion Fitting calls → parsed (flat_map encoded calls) ≡ (calls, None)
 reads_back [] h = parsed_none
 reads_back (call ∷ calls) h =
     let rest = flat_map encoded calls in

@@ -2,7 +2,7 @@
 use Rattle.std.specs.Prelude.{◌≡◌, ℕ, ◌/◌, ◌%◌, ◌^◌, ◌<◌, List, [], ◌∷◌, None, FitsSigned}
 use Rattle.std.specs.Int.{w32}
 use Rattle.std.proofs.Common.{of_z}
-use Rattle.std.specs.List.{flat_map, AllByRecursion as All}
+use Rattle.std.specs.List.{flat_map, AllByRecursion}
 use Rattle.calls.specs.declared.Call.{Call}
 use Rattle.calls.specs.declared.Call.TheVariants.{Create, Delete, ChangePriority, Hold, Release, SetFlags, TestFlags, Claim, Drop, Send, Wait}
 use Rattle.player.specs.Parsed.{parsed}
@@ -46,4 +46,4 @@ Fitting (Send address packet kind first second) = FitsSigned w32 address × (pac
 Fitting Wait = Unit {0}
 
 abbrev pub ReadsBack : Type 0
-ReadsBack = (calls : List Call) → All Fitting calls → parsed (flat_map encoded calls) ≡ (calls, None)
+ReadsBack = (calls : List Call) → AllByRecursion Fitting calls → parsed (flat_map encoded calls) ≡ (calls, None)
