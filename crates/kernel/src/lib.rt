@@ -5,3 +5,6 @@ pub mod furnishing;
 pub mod phases;
 pub mod started;
 pub mod stopped;
+
+// The calls, refusals and answers, for whoever uses a kernel.
+pub use calls;

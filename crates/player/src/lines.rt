@@ -5,7 +5,7 @@ ghost use Rattle.player.specs.Played.{answer_line, last_line};
 ghost use Rattle.player.specs.Printed.{line_text};
 
 use crate::records::BadRecord;
-use calls::{Answer, Call};
+use kernel::calls::{Answer, Call};
 use std::alloc::{AllocError, Global};
 use std::fmt;
 

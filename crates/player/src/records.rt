@@ -3,7 +3,7 @@
 ghost use Rattle.std.specs.Prelude.{◌≡◌, ◌+◌, ◌*◌, ◌≤◌, length};
 ghost use Rattle.player.specs.Decoded.{fault_number, word, sent, call_of, with_spare, decoded, read};
 
-use calls::Call;
+use kernel::calls::Call;
 
 // The question that a record fails, in the order in which they are asked.
 #[derive(Clone, Copy)]

@@ -3,7 +3,7 @@ ghost use Rattle.std.specs.Prelude.{◌≡◌, IfOk};
 ghost use Rattle.player.specs.Parsed.{Reading, parsed};
 
 use crate::records::{BadRecord, decode};
-use calls::Call;
+use kernel::calls::Call;
 use std::alloc::{AllocError, Global};
 
 // The calls before the first bad record, or all of them, and what that record fails.

@@ -79,7 +79,7 @@ pub fn packet_numbers(packet: Packet) -> ((u8, u8), i32, u32, u32, u32)
 #[cfg(test)]
 mod tests {
     use super::*;
-    use calls::Call;
+    use kernel::calls::Call;
     use kernel::furnishing::open;
 
     #[test]
