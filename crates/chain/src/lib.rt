@@ -70,14 +70,14 @@ fn insert<R: Link>(rows: &mut [R], head: u8, before: u8, n: u8) -> u8
     lead(rows, head, before, n)
 }
 
-// Takes row n out, which stands behind row `before`, or first where that is 0. Returns the head.
-fn remove<R: Link>(rows: &mut [R], head: u8, before: u8, n: u8) -> u8
+// Takes out the row behind row `before`, or the first where that is 0. Returns the head.
+fn remove<R: Link>(rows: &mut [R], head: u8, before: u8) -> u8
     requires before { before ≤ length rows.old }
-    requires row { n ≤ length rows.old }
-    requires behind { n ≡ next (head ∷ map R.link rows.old) before }
+    requires row { next (head ∷ map R.link rows.old) before ≤ length rows.old }
     ensures links { result ∷ map R.link rows.new ≡ removed (head ∷ map R.link rows.old) before }
     ensures kept { Kept R.relinked rows.old rows.new }
 {
+    let n = follower(rows, head, before);
     let at = follower(rows, head, n);
     let head = lead(rows, head, before, at);
     lead(rows, head, n, 0)
@@ -94,7 +94,7 @@ fn unlink<R: Link>(rows: &mut [R], head: u8, n: u8) -> u8
     if n == 0 {
         return 0;
     }
-    remove(rows, head, 0, n)
+    remove(rows, head, 0)
 }
 
 // Takes the first row off the chain, and leaves it without a link; an empty chain stays as it is. Returns the head.
@@ -153,7 +153,7 @@ fn take_at<R: Link>(rows: &mut [R], head: u8, before: u8, n: u8) -> u8
     ensures loose { next (result ∷ map R.link rows.new) n ≡ 0 }
     ensures kept { Kept R.relinked rows.old rows.new }
 {
-    remove(rows, head, before, n)
+    remove(rows, head, before)
 }
 
 // Takes row n, which stands on the chain, off it, and leaves it without a link. Returns the head.

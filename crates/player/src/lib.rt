@@ -54,7 +54,7 @@ pub fn printed(bytes: &[u8], heap: Global) -> Result<String, AllocError>
     Ok(page)
 }
 
-// The script of any calls is read as those calls.
+// A script of claims, drops, sends and waits is read as those calls.
 pub fn scripts_read_back() -> u8
     ensures { ReadsBack }
 {

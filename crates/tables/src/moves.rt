@@ -3,6 +3,7 @@ ghost use Rattle.std.specs.Prelude.{◌≡◌, ◌<◌, true, false, Some as Jus
 ghost use Rattle.chain.specs.Chain.{Row, first};
 ghost use Rattle.packets.specs.Places.{handed};
 ghost use Rattle.packets.specs.View.{filled};
+ghost use Rattle.tasks.specs.Use.{task_at};
 ghost use Rattle.tasks.specs.View.{others_have, priority_of, written};
 ghost use Rattle.tables.specs.State.{task, used, task_part, packet, free, queue};
 ghost use Rattle.tables.specs.Moves.{fresh, with_tasks, take_free, put_free, to_queue, in_hands_of, take_queued, new_task, add_task, remove_task, in_condition, set_condition, with_held, set_held, with_flags, set_flags, with_priority, set_priority};
@@ -232,11 +233,19 @@ impl Tables {
     }
 
     // Writes task t, which is in use at the same priority.
-    fn rewrite(&mut self, t: u8, to: Task)
+    fn write_task(&mut self, t: u8, to: Task)
         requires { priority_of (task (view self.old) t) ≡ Just to.priority }
         ensures { view self.new ≡ with_tasks (view self.old) (written (task_part (view self.old)) t to) }
     {
         self.tasks.write(t, to);
+    }
+
+    // Writes task t, which is in use, in another condition.
+    fn rewrite(&mut self, t: u8, task: Task, condition: Condition)
+        requires { task_at (view self.old).tasks t ≡ Just task }
+        ensures { view self.new ≡ with_tasks (view self.old) (written (task_part (view self.old)) t (in_condition condition task)) }
+    {
+        self.tasks.write(t, with_condition(task, condition));
     }
 
     // Task t gets another condition; a number that is not in use stays so.
@@ -244,7 +253,7 @@ impl Tables {
         ensures { view self.new ≡ set_condition (view self.old) t condition }
     {
         if let Some(task) = self.task(t) {
-            self.rewrite(t, with_condition(task, condition));
+            self.rewrite(t, task, condition);
         }
     }
 
@@ -253,7 +262,7 @@ impl Tables {
         ensures { view self.new ≡ set_held (view self.old) t held }
     {
         if let Some(task) = self.task(t) {
-            self.rewrite(t, with_held(task, held));
+            self.write_task(t, with_held(task, held));
         }
     }
 
@@ -262,7 +271,7 @@ impl Tables {
         ensures { view self.new ≡ set_flags (view self.old) t flags }
     {
         if let Some(task) = self.task(t) {
-            self.rewrite(t, with_flags(task, flags));
+            self.write_task(t, with_flags(task, flags));
         }
     }
 

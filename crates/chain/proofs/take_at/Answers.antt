@@ -12,8 +12,7 @@ remove-requires g c =
     let o = cut_on links _ _ _ _ at.cut (λ e. omega (arith, e, at.row)) in
     record {
       before = place_row rows g.R.Link.link c.args.head _ (cut_before links _ _ _ _ at.cut (omega arith));
-      row = place_row rows g.R.Link.link c.args.head _ o.row.1;
-      behind = at.cut.at_is;
+      row = omega (arith, at.cut.at_is, place_row rows g.R.Link.link c.args.head _ o.row.1);
     }
 
 pub returns : goal.returns

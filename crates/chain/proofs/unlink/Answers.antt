@@ -18,7 +18,7 @@ pub remove-requires : goal.remove-requires
 remove-requires g c =
     let rows = c.args.rows.now in
     let r = first_row (c.args.head ∷ map g.R.Link.link rows) c.requires.ends (λ e. c.if-n-eq0.false (c.requires.first ∙ e)) in
-    record { before = omega arith; row = place_row rows g.R.Link.link c.args.head c.args.n (omega (arith, c.requires.first, r.1)); behind = c.requires.first }
+    record { before = omega arith; row = place_row rows g.R.Link.link c.args.head c.args.head r.1 }
 
 pub returns : goal.returns
 returns g c =
