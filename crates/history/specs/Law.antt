@@ -20,7 +20,7 @@ use Rattle.history.specs.History.{furnish}
 
 -- Packet n is at place p, from that sender, and nothing else holds it: it is on the free list once if it is free, on the queue of a
 -- task once if it is queued there, and otherwise on no list.
-pub record Is_at (s : State) (n : ℕ) (p : Place) (sender : ℤ) : Type 0 where
+pub record IsAt (s : State) (n : ℕ) (p : Place) (sender : ℤ) : Type 0 where
   pub place : (packet s n).place ≡ p
   pub sender_is : (packet s n).sender ≡ sender
   pub on_free : times n (free s) ≡ stands p 0
@@ -28,7 +28,7 @@ pub record Is_at (s : State) (n : ℕ) (p : Place) (sender : ℤ) : Type 0 where
 
 -- Each packet is where the journal has it.
 abbrev pub Places : State → Journal → Type 0
-Places s j = (n : ℕ) → 0 < n → n ≤ 64 → Is_at s n (j.places n) (j.senders n)
+Places s j = (n : ℕ) → 0 < n → n ≤ 64 → IsAt s n (j.places n) (j.senders n)
 
 -- For each task number, the packets that it took and then those on its queue are the packets delivered to it, in order.
 abbrev pub Deliveries : State → Journal → Type 0
