@@ -1,6 +1,7 @@
 pub mod Times
 pub mod Paths
-pub mod Rows
+pub mod RowLinks
 pub mod Ranks
 pub mod Lists
 pub mod Falling
+pub mod Walks

@@ -12,7 +12,7 @@ pub lists_at : (heads links : List ℕ) (i : ℕ) → i < length heads → get_o
 lists_at heads links i h = get_or-map (λ g. chain (g ∷ links)) heads i 0 [] h
 
 -- the links of rows say the same whatever head stands before them
-next_row : (g h : ℕ) (links : List ℕ) (k : ℕ) → 0 < k → next (g ∷ links) k ≡ next (h ∷ links) k
+pub next_row : (g h : ℕ) (links : List ℕ) (k : ℕ) → 0 < k → next (g ∷ links) k ≡ next (h ∷ links) k
 next_row g h links zero p = absurd (omega arith)
 next_row g h links (suc k) p = refl
 
@@ -71,7 +71,7 @@ none_list m links i = (chain_none (get_or (replicate m 0) i 0 ∷ links) (replic
 
 -- ---- the first of a chain
 
-path_first : (links xs : List ℕ) → Path links 0 xs 0 → next links 0 ≢ 0 → xs ≡ next links 0 ∷ tail xs
+pub path_first : (links xs : List ℕ) → Path links 0 xs 0 → next links 0 ≢ 0 → xs ≡ next links 0 ∷ tail xs
 path_first links [] p ne = absurd (ne p)
 path_first links (x ∷ xs) p ne = ap (λ z. z ∷ xs) (sym p.0)
 

@@ -1,5 +1,5 @@
 -- Paths along links, and chains as paths that end.
-use Rattle.std.proofs.Common.{◌≡◌, ℕ, zero, suc, ◌-◌, ◌<◌, ◌≤◌, ◌≢◌, List, [], ◌∷◌, ◌++◌, length, set, sym, refl, ap, ◌∙◌, subst, ap₂, ⊎_elim, append-nil, arith, length-append, length-set}
+use Rattle.std.proofs.Common.{◌≡◌, ℕ, zero, suc, ◌-◌, ◌<◌, ◌≤◌, ◌≢◌, List, [], ◌∷◌, ◌++◌, length, set, sym, refl, ap, ◌∙◌, subst, ap₂, ⊎_elim, arith, length-set}
 use Rattle.std.proofs.lemmas.List.{get_or_past, get_or-set_same, get_or-set_other}
 use Rattle.std.proofs.lemmas.Bool.{cases_lt, cases_eq}
 use Rattle.chain.specs.Times.{times}
@@ -191,7 +191,7 @@ cut_whole links before at front back c =
 pub cut_chain : (links : List ℕ) (before at : ℕ) (front back : List ℕ) → Cut links before at front back → (chain links ≡ front ++ back) × Ends links
 cut_chain links before at front back c = chain_is links (front ++ back) (cut_whole links before at front back c)
 
-last_push : (a : ℕ) (xs : List ℕ) (n : ℕ) → last a (xs ++ (n ∷ [])) ≡ n
+pub last_push : (a : ℕ) (xs : List ℕ) (n : ℕ) → last a (xs ++ (n ∷ [])) ≡ n
 last_push a [] n = refl
 last_push a (x ∷ xs) n = last_push x xs n
 
@@ -238,28 +238,6 @@ cut_on links before at front (x ∷ more) c ne =
       };
       shorter = omega arith;
     }
-
-pub cut_end : (links : List ℕ) (before at : ℕ) (front back : List ℕ) → Cut links before at front back → at ≡ 0 → back ≡ []
-cut_end links before at front [] c e = refl
-cut_end links before at front (x ∷ xs) c e = absurd (let p = c.back_path in omega (arith, p.0, p.1, c.at_is, e))
-
-pub cut_all : (links : List ℕ) (before at : ℕ) (front back : List ℕ) → Cut links before at front back → at ≡ 0 → chain links ≡ front
-cut_all links before at front back c e =
-    (cut_chain links before at front back c).0 ∙ ap (λ z. front ++ z) (cut_end links before at front back c e) ∙ append-nil front
-
--- the rows before a cut and the one at it have numbers of their own
-pub cut_room : (links : List ℕ) (before at : ℕ) (front back : List ℕ) → Cut links before at front back → at ≢ 0 → suc (length front) < length links
-cut_room links before at front back c ne =
-    let o = cut_on links before at front back c ne in
-    let l = path_room links 0 _ (let r = o.row.1 in omega arith) (cut_whole links at (next links at) (front ++ (at ∷ [])) o.more o.cut) in
-    omega (arith, l, length-append (front ++ (at ∷ [])) o.more, length-append front (at ∷ []))
-
--- a row of the chain that is not in front of the cut stands behind it
-pub cut_some : (links : List ℕ) (before at : ℕ) (front back : List ℕ) (n : ℕ) → Cut links before at front back → 0 < times n (chain links) → times n front ≡ 0 → at ≢ 0
-cut_some links before at front back n c h out e = let w = ap (times n) (cut_all links before at front back c e) in omega arith
-
-pub cut_past : (front : List ℕ) (at n : ℕ) → times n front ≡ 0 → at ≢ n → times n (front ++ (at ∷ [])) ≡ 0
-cut_past front at n out ne = let h = times-append n front (at ∷ []) in let z = hit_other at n ne in omega arith
 
 -- the row before a cut is a row, or 0
 pub cut_before : (links : List ℕ) (before at : ℕ) (front back : List ℕ) → Cut links before at front back → 0 < length links → before < length links

@@ -9,9 +9,6 @@ module _ (ranks : List ℕ) (n : ℕ) where
   abbrev pub Past : List ℕ → Type 0
   Past front = (ys : List ℕ) → by_rank ranks n (front ++ ys) ≡ front ++ by_rank ranks n ys
 
-  pub past_none : Past []
-  past_none ys = refl
-
   pub past_more : (front : List ℕ) (x : ℕ) → Past front → rank_of ranks n ≤ rank_of ranks x → Past (front ++ (x ∷ []))
   past_more front x h le ys =
       ap (by_rank ranks n) (append_assoc front (x ∷ []) ys) ∙ h (x ∷ ys) ∙

@@ -1,6 +1,6 @@
 use Rattle.std.proofs.Common.{◌∷◌, map, arith}
 use Rattle.chain.proofs.Paths.{cut_last, cut_before, put_in, becomes_at}
-use Rattle.chain.proofs.Rows.{place_row, row_place}
+use Rattle.chain.proofs.RowLinks.{place_row, row_place}
 use Rattle.chain.proofs.append.Goals as goal
 
 pub insert-requires : goal.insert-requires

@@ -1,68 +1,53 @@
-use Rattle.std.proofs.Common.{◌<◌, [], ◌∷◌, ◌++◌, map, length, sym, subst, arith}
+use Rattle.std.proofs.Common.{◌≡◌, [], ◌∷◌, ◌++◌, map, sym, ◌∙◌, subst, append_assoc, arith}
 use Rattle.std.proofs.lemmas.Bool.{leb-true, leb-false}
-use Rattle.chain.specs.Chain.{chain, rest, Cut}
-use Rattle.chain.proofs.Paths.{cut_none, cut_on, cut_end}
-use Rattle.chain.proofs.Ranks.{past_none, past_more, past_all, past_here}
-use Rattle.chain.proofs.Rows.{place_row}
+use Rattle.chain.specs.Chain.{chain, Place}
+use Rattle.chain.proofs.Ranks.{past_more, past_all, past_here}
+use Rattle.chain.proofs.Walks.{cut_at, row_at}
+use Rattle.chain.proofs.Paths.{last_push}
+use Rattle.chain.proofs.RowLinks.{place_row}
 use Rattle.chain.proofs.find_place.Goals as goal
-
-pub loop-at-init : goal.loop-at-init
-loop-at-init g c =
-    let links = c.args.head ∷ map g.R.Link.link c.args.rows.now in
-    ([], chain links, cut_none links c.requires.ends, past_none (map g.R.Ranked.key c.args.rows.now) c.args.n)
 
 pub rank_at-requires : goal.rank_at-requires
 rank_at-requires g c =
-    let rows = c.args.rows.now in
-    let o = cut_on (c.args.head ∷ map g.R.Link.link rows) _ _ _ _ c.loop-at.invariant.2 c.loop-at-test.true in
-    (o.row.0, place_row rows g.R.Link.link c.args.head _ o.row.1)
-
-pub follower-at-requires : goal.follower-at-requires
-follower-at-requires g c =
-    let rows = c.args.rows.now in
-    let o = cut_on (c.args.head ∷ map g.R.Link.link rows) _ _ _ _ c.loop-at.invariant.2 c.loop-at-test.true in
-    place_row rows g.R.Link.link c.args.head _ o.row.1
-
-pub loop-at-smaller : goal.loop-at-smaller
-loop-at-smaller g c =
     let links = c.args.head ∷ map g.R.Link.link c.args.rows.now in
-    let o = cut_on links _ _ _ _ c.loop-at.invariant.2 c.loop-at-test.true in
-    subst (λ z. length (rest links z) < length (rest links c.loop-at.at)) (sym c.follower-at.ensures) o.shorter
+    let i = c.loop-at.invariant in
+    let row = row_at links i.0 c.in-Some.at c.next.new.self c.requires.ends (subst (λ z. i.0 ++ z ≡ chain links) c.in-Some.ensures.steps i.1) in
+    (row.0, place_row c.args.rows.now g.R.Link.link c.args.head _ row.1)
+
+pub returns-then-not-goes_behind : goal.returns-then-not-goes_behind
+returns-then-not-goes_behind g c =
+    let links = c.args.head ∷ map g.R.Link.link c.args.rows.now in
+    let ranks = map g.R.Ranked.key c.args.rows.now in
+    let i = c.loop-at.invariant in
+    subst (Place links ranks c.args.n) (sym i.2)
+    record {
+      front = i.0;
+      back = c.loop-at.at-iterator;
+      cut = cut_at links i.0 c.loop-at.at-iterator c.requires.ends i.1;
+      put = past_here ranks c.args.n i.0 c.loop-at.at-iterator c.in-Some.at c.next.new.self i.3 c.in-Some.ensures.steps (omega (arith, leb-false _ _ (sym c.if-not-goes_behind.ensures), c.rank_at.ensures, c.rank_at-rank.ensures));
+    }
 
 pub loop-at-preserved : goal.loop-at-preserved
 loop-at-preserved g c =
-    let rows = c.args.rows.now in
-    let links = c.args.head ∷ map g.R.Link.link rows in
-    let at = c.loop-at.at in
+    let links = c.args.head ∷ map g.R.Link.link c.args.rows.now in
+    let ranks = map g.R.Ranked.key c.args.rows.now in
     let i = c.loop-at.invariant in
-    let o = cut_on links _ _ _ _ i.2 c.loop-at-test.true in (
+    let at = c.in-Some.at in (
       i.0 ++ (at ∷ []),
-      o.more,
-      subst (λ z. Cut links at z (i.0 ++ (at ∷ [])) o.more) (sym c.follower-at.ensures) o.cut,
-      past_more (map g.R.Ranked.key rows) c.args.n i.0 at i.3 (omega (arith, leb-true _ _ (sym c.if-goes_behind.ensures))),
+      append_assoc i.0 (at ∷ []) c.next.new.self ∙ subst (λ z. i.0 ++ z ≡ chain links) c.in-Some.ensures.steps i.1,
+      sym (last_push 0 i.0 at),
+      past_more ranks c.args.n i.0 at i.3 (omega (arith, leb-true _ _ (sym c.if-not-goes_behind.ensures), c.rank_at.ensures, c.rank_at-rank.ensures)),
     )
 
-pub returns-else-goes_behind : goal.returns-else-goes_behind
-returns-else-goes_behind g c =
-    let rows = c.args.rows.now in
-    let links = c.args.head ∷ map g.R.Link.link rows in
+pub returns : goal.returns
+returns g c =
+    let links = c.args.head ∷ map g.R.Link.link c.args.rows.now in
+    let ranks = map g.R.Ranked.key c.args.rows.now in
     let i = c.loop-at.invariant in
-    let o = cut_on links _ _ _ _ i.2 c.loop-at-test.true in
+    subst (Place links ranks c.args.n) (sym i.2)
     record {
       front = i.0;
-      back = i.1;
-      cut = subst (λ z. Cut links c.loop-at.before z i.0 i.1) i.2.at_is i.2;
-      put = past_here (map g.R.Ranked.key rows) c.args.n i.0 i.1 c.loop-at.at o.more i.3 o.back_is (omega (arith, leb-false _ _ (sym c.if-goes_behind.ensures)));
-    }
-
-pub returns-after-loop-at : goal.returns-after-loop-at
-returns-after-loop-at g c =
-    let rows = c.args.rows.now in
-    let links = c.args.head ∷ map g.R.Link.link rows in
-    let i = c.loop-at.invariant in
-    record {
-      front = i.0;
-      back = i.1;
-      cut = subst (λ z. Cut links c.loop-at.before z i.0 i.1) i.2.at_is i.2;
-      put = past_all (map g.R.Ranked.key rows) c.args.n i.0 i.1 i.3 (cut_end links _ _ _ _ i.2 c.loop-at-test.false);
+      back = c.loop-at.at-iterator;
+      cut = cut_at links i.0 c.loop-at.at-iterator c.requires.ends i.1;
+      put = past_all ranks c.args.n i.0 c.loop-at.at-iterator i.3 c.in-None.ensures.steps.0;
     }

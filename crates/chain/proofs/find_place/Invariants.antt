@@ -1,10 +1,8 @@
-use Rattle.std.proofs.Common.{ℕ, List, ◌∷◌, map, length}
-use Rattle.chain.specs.Chain.{rest, Cut}
+use Rattle.std.proofs.Common.{◌≡◌, ℕ, List, ◌∷◌, ◌++◌, map}
+use Rattle.chain.specs.Chain.{chain, last}
 use Rattle.chain.proofs.Ranks.{Past}
 use Rattle.chain.proofs.find_place.Given as goal
 
+-- the rows passed so far, and the last of them
 abbrev pub invariant-loop-at : goal.invariant-loop-at
-invariant-loop-at g l = (front : List ℕ) × (back : List ℕ) × Cut (l.head ∷ map g.R.Link.link l.rows) l.before l.at front back × Past (map g.R.Ranked.key l.rows) l.n front
-
-abbrev pub decreases-loop-at : goal.decreases-loop-at
-decreases-loop-at g l = length (rest (l.head ∷ map g.R.Link.link l.rows) l.at)
+invariant-loop-at g l = (front : List ℕ) × (front ++ l.at-iterator ≡ chain (l.head ∷ map g.R.Link.link l.rows)) × (l.before ≡ last 0 front) × Past (map g.R.Ranked.key l.rows) l.n front

@@ -1,11 +1,6 @@
-use Rattle.std.proofs.Common.{◌∷◌, map, set, sym, refl, ap, ◌∙◌, arith}
-use Rattle.chain.proofs.Rows.{links-set, map_kept}
+use Rattle.std.proofs.Common.{ap, ◌∙◌, arith}
+use Rattle.chain.proofs.RowLinks.{links-set, map_kept}
 use Rattle.chain.proofs.lead.Goals as goal
-
-pub returns-then-n-eq0 : goal.returns-then-n-eq0
-returns-then-n-eq0 g c =
-    let links = c.args.head ∷ map g.R.Link.link c.args.rows.now in
-    record { links = sym (ap (λ z. set links z c.args.to) c.if-n-eq0.true); kept = refl }
 
 pub returns : goal.returns
 returns g c =

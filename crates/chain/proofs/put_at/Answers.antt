@@ -1,7 +1,7 @@
 use Rattle.std.proofs.Common.{◌≡◌, ◌∷◌, ◌++◌, map, sym, ap, ◌∙◌, arith}
 use Rattle.chain.specs.Chain.{chain, by_rank}
 use Rattle.chain.proofs.Paths.{cut_chain, cut_before, put_in, becomes_at, becomes_list}
-use Rattle.chain.proofs.Rows.{place_row, row_place}
+use Rattle.chain.proofs.RowLinks.{place_row, row_place}
 use Rattle.chain.proofs.put_at.Goals as goal
 
 pub insert-requires : goal.insert-requires

@@ -1,48 +1,19 @@
-use Rattle.std.proofs.Common.{◌<◌, [], ◌∷◌, ◌++◌, map, length, sym, refl, subst}
-use Rattle.chain.specs.Chain.{chain, rest, Cut}
-use Rattle.chain.proofs.Paths.{chain_path, path_row, cut_none, cut_on, cut_some, cut_past}
-use Rattle.chain.proofs.Rows.{place_row}
+use Rattle.std.proofs.Common.{rules, None, map, ◌∷◌, sym, ap, ◌∙◌, subst}
+use borrow.Author.Tests.{tests}
+use Rattle.std.specs.Option.{unwrap_or}
+use Rattle.std.proofs.lemmas.Iterator.Consumers.{YieldsList-from_first, YieldsList-at}
+use Rattle.std.proofs.lemmas.Iterator.Search.{YieldsList-from_take_while}
+use Rattle.chain.specs.Chain.{last, Before}
+use Rattle.chain.proofs.Walks.{last_is, all_of, before_n, before_is}
 use Rattle.chain.proofs.row_before.Goals as goal
-
-pub loop-at-init : goal.loop-at-init
-loop-at-init g c =
-    let links = c.args.head ∷ map g.R.Link.link c.args.rows.now in ([], chain links, cut_none links c.requires.ends, refl)
-
-pub follower-at-requires : goal.follower-at-requires
-follower-at-requires g c =
-    let rows = c.args.rows.now in
-    let links = c.args.head ∷ map g.R.Link.link rows in
-    let i = c.loop-at.invariant in
-    let some = cut_some links _ _ _ _ c.args.n i.2 c.requires.inside i.3 in
-    place_row rows g.R.Link.link c.args.head _ (cut_on links _ _ _ _ i.2 some).row.1
-
-pub loop-at-smaller : goal.loop-at-smaller
-loop-at-smaller g c =
-    let links = c.args.head ∷ map g.R.Link.link c.args.rows.now in
-    let i = c.loop-at.invariant in
-    let some = cut_some links _ _ _ _ c.args.n i.2 c.requires.inside i.3 in
-    subst (λ z. length (rest links z) < length (rest links c.loop-at.at)) (sym c.follower-at.ensures) (cut_on links _ _ _ _ i.2 some).shorter
-
-pub loop-at-preserved : goal.loop-at-preserved
-loop-at-preserved g c =
-    let links = c.args.head ∷ map g.R.Link.link c.args.rows.now in
-    let at = c.loop-at.at in
-    let i = c.loop-at.invariant in
-    let some = cut_some links _ _ _ _ c.args.n i.2 c.requires.inside i.3 in
-    let o = cut_on links _ _ _ _ i.2 some in (
-      i.0 ++ (at ∷ []),
-      o.more,
-      subst (λ z. Cut links at z (i.0 ++ (at ∷ [])) o.more) (sym c.follower-at.ensures) o.cut,
-      cut_past i.0 at c.args.n i.3 c.loop-at-test.true,
-    )
 
 pub returns : goal.returns
 returns g c =
     let links = c.args.head ∷ map g.R.Link.link c.args.rows.now in
-    let i = c.loop-at.invariant in
-    record {
-      front = i.0;
-      back = i.1;
-      cut = subst (λ z. Cut links c.loop-at.before z i.0 i.1) c.loop-at-test.false i.2;
-      row = (path_row links 0 (chain links) 0 c.args.n (chain_path links c.requires.ends) c.requires.inside).0;
-    }
+    let take_while = c.take_while.ensures in
+    let ran = c.last.ensures.ran in
+    let all =
+    all_of ran.0 ran.1
+    (YieldsList-from_take_while _ (before_n c.args.n) (YieldsList-at take_while.source (YieldsList-from_first (λ x. x) (λ w. w) _ c.new.ensures)) take_while.closure take_while.done (λ x b q k. search (rules, tests))) in
+    let is = c.unwrap_or.ensures ∙ ap (λ o. unwrap_or o 0) ran.2 ∙ last_is None ran.0 ∙ ap (last 0) all in
+    subst (Before links c.args.n) (sym is) (before_is links c.args.n c.requires.ends c.requires.inside)

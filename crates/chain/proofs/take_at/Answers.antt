@@ -1,7 +1,7 @@
 use Rattle.std.proofs.Common.{◌≢◌, ◌∷◌, map, ap, ◌∙◌, arith}
 use Rattle.chain.specs.Chain.{next}
 use Rattle.chain.proofs.Paths.{cut_before, cut_on, take_out, take_loose, becomes_at}
-use Rattle.chain.proofs.Rows.{place_row}
+use Rattle.chain.proofs.RowLinks.{place_row}
 use Rattle.chain.proofs.take_at.Goals as goal
 
 pub remove-requires : goal.remove-requires

@@ -2,7 +2,7 @@
 use Rattle.std.proofs.Common.{◌≡◌, ℕ, zero, suc, ◌-◌, ◌<◌, ◌≤◌, List, ◌∷◌, map, length, get_or, set, sym, ap, ◌∙◌, arith}
 use lib.ListN.{length-map}
 use Rattle.std.proofs.lemmas.List.{map-set, set-get_or, get_or-map}
-use Rattle.chain.specs.Chain.{next, Row, rank_of}
+use Rattle.chain.specs.Chain.{next, Row}
 
 module _ {R : Type 0} (rows : List R) (link : R → ℕ) (head : ℕ) where
   pub next_row : (n : ℕ) (x : R) → Row (length rows) n → x ≡ get_or rows (n - 1) x → link x ≡ next (head ∷ map link rows) n
@@ -21,9 +21,6 @@ module _ {R : Type 0} (rows : List R) (link : R → ℕ) (head : ℕ) where
 pub map_kept : {R F : Type 0} (rows : List R) (f : R → F) (i : ℕ) (x d : R) → f x ≡ f (get_or rows i d) → map f (set rows i x) ≡ map f rows
 map_kept rows f i x d e =
     map-set f rows i x ∙ ap (set (map f rows) i) e ∙ sym (map-set f rows i (get_or rows i d)) ∙ ap (map f) (set-get_or rows i d)
-
-pub rank_row : {R : Type 0} (key : R → ℕ) (rows : List R) (n : ℕ) (x : R) → Row (length rows) n → x ≡ get_or rows (n - 1) x → key x ≡ rank_of (map key rows) n
-rank_row key rows n x r e = ap key e ∙ sym (get_or-map key rows (n - 1) x 0 (omega (arith, r.0, r.1)))
 
 module _ {R : Type 0} (rows : List R) (link : R → ℕ) (head : ℕ) where
   -- a place of the links is a row, or the head's

@@ -1,9 +1,0 @@
-use Rattle.std.proofs.Common.{◌≡◌, ℕ, List, ◌∷◌, map, length}
-use Rattle.chain.specs.Chain.{rest, Cut}
-use Rattle.chain.proofs.rows_from.Given as goal
-
-abbrev pub invariant-loop-at : goal.invariant-loop-at
-invariant-loop-at g l = (before : ℕ) × (front : List ℕ) × (back : List ℕ) × Cut (l.head ∷ map g.R.Link.link l.rows) before l.at front back × (l.n ≡ length front)
-
-abbrev pub decreases-loop-at : goal.decreases-loop-at
-decreases-loop-at g l = length (rest (l.head ∷ map g.R.Link.link l.rows) l.at)
