@@ -1,5 +1,6 @@
 -- Where packets are, and on which list a packet of each place stands. List 0 has the free packets, and list t the queue of task t.
-use Rattle.std.specs.Prelude.{ℕ, zero, suc, Bool, true, false, cond, ◌||◌, List, [], ◌∷◌, ℤ, pos, negsuc, ◌==◌, slice_index_or}
+use Rattle.std.specs.Prelude.{ℕ, zero, suc, Bool, true, false, ◌||◌, List, ◌∷◌, ℤ, pos, negsuc, ◌==◌, slice_index_or}
+use Rattle.std.specs.List.{list_any}
 use Rattle.chain.specs.Times.{hit}
 use Rattle.packets.specs.declared.rows.Packet.{Packet}
 use Rattle.packets.specs.declared.rows.Place.{Place}
@@ -38,9 +39,9 @@ from_task t (negsuc u) = false
 abbrev pub involves : ℕ → Packet → Bool
 involves t p = with_task t p.place || from_task t p.sender
 
+-- Some packet is.
 abbrev pub any_involves : ℕ → List Packet → Bool
-any_involves t [] = false
-any_involves t (p ∷ ps) = cond (involves t p) true (any_involves t ps)
+any_involves t ps = list_any (involves t) ps
 
 -- A packet of that place, with every other field 0.
 abbrev pub blank : Place → Packet

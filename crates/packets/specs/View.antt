@@ -12,7 +12,7 @@ pub record View : Type 0 where
   pub lists : List (List ℕ)
 
 abbrev pub view : PacketTable → View
-view t = record { packets = map (λ r. r.packet) t.rows; lists = lists t.heads (map (λ r. r.next) t.rows) }
+view t = record { packets = map (λ r. r.item) t.rows; lists = lists t.heads (map (λ r. r.next) t.rows) }
 
 -- Packet n; a number that no packet has reads as a free one with every field 0.
 abbrev pub packet : View → ℕ → Packet

@@ -1,7 +1,7 @@
 pub mod Numbers
+pub mod Links
 pub mod Others
 pub mod Changes
-pub mod Links
-pub mod Moves
 pub mod Walk
 pub mod Priorities
+pub mod Moves

@@ -1,17 +1,20 @@
 -- What is known of a table, and its view, after a task was written, came into use or went.
-use Rattle.std.proofs.Common.{◌≡◌, ℕ, ◌-◌, ◌<◌, false, List, ◌∷◌, map, length, get_or, set, Some, None, Option, sym, ap, ◌∙◌, subst, ap₂, arith, length-set}
+use Rattle.std.proofs.Common.{◌≡◌, ℕ, ◌-◌, ◌<◌, true, false, List, ◌∷◌, map, length, is_some, set, Some, None, Option, sym, refl, ap, ◌∙◌, subst, ap₂, arith}
+use mathlib.Core.List.{map-map}
 use lib.ListN.{length-map}
 use Rattle.chain.specs.Times.{times}
 use Rattle.chain.specs.Chain.{chain, Ends, Row, by_rank, without, Kept}
 use Rattle.chain.specs.Falling.{falling}
 use Rattle.tasks.specs.declared.rows.Task.{Task}
-use Rattle.tasks.specs.declared.rows.TaskRow.{TaskRow}
 use Rattle.tasks.specs.declared.table.TaskTable.{TaskTable}
-use Rattle.tasks.specs.Use.{empty, holding, cleared, rank, in_use, task_at}
-use Rattle.tasks.specs.View.{View, view, task, with_task, others_have, priority_of, added, removed, written}
-use Rattle.tasks.proofs.Links.{link, relinked, held, with_held, links_same, tasks_set, tasks_after, order_put, order_taken}
-use Rattle.tasks.proofs.Numbers.{task_same}
+use Rattle.tasks.specs.Use.{rank, in_use, task_at}
+use Rattle.tasks.specs.View.{View, view, task, others_have, priority_of, added, removed, written}
+use Rattle.tasks.proofs.Links.{link, relinked, held, with_held, emptied, tasks_kept, links_same, tasks_set}
+use Rattle.tasks.proofs.Links as rows_of
+use Rattle.tasks.proofs.Numbers.{some_used}
 use Rattle.tasks.proofs.Others.{others_set}
+use Rattle.tasks.proofs.Walk.{met_row}
+use Rattle.tasks.proofs.Priorities.{at_priority_row}
 use Rattle.tasks.proofs.Changes as changes
 
 holds_at : (tasks tasks' : List (Option Task)) (xs xs' : List ℕ) → tasks' ≡ tasks → xs' ≡ xs → changes.Holds tasks xs → changes.Holds tasks' xs'
@@ -23,79 +26,98 @@ falls_at tasks tasks' xs xs' p q falls = ap₂ (λ ts ys. falling (map rank ts) 
 abbrev as_view : List (Option Task) → List ℕ → View
 as_view ts xs = record { tasks = ts; order = xs }
 
-module _ (s : TaskTable) (t : ℕ) (x : Option Task) (row : Row 32 t) (r : TaskRow) (is : r ≡ with_held (get_or s.rows (t - 1) empty) x) where
-  row_here : Row (length (view s).tasks) t
-  row_here = let l = length-map s.rows held in let z = s.sized in (row.0, omega (arith, row.1, l, z))
+pub used_number : (s : TaskTable) (t : ℕ) → is_some (task (view s) t) ≡ true → Row 32 t
+used_number s t used = met_row s t (let u = some_used (task (view s) t) used in let h = s.holds t in omega arith)
 
-  -- ---- row t is written
+row_here : (s : TaskTable) (t : ℕ) → Row 32 t → Row (length (view s).tasks) t
+row_here s t row = let l = length-map s.rows held in let z = s.sized in (row.0, omega (arith, row.1, l, z))
 
-  order_same : chain (s.first ∷ map link (set s.rows (t - 1) r)) ≡ (view s).order
-  order_same = ap (λ z. chain (s.first ∷ z)) (links_same s.rows t x r is)
+-- ---- row t is written
 
-  pub still_sized : length (set s.rows (t - 1) r) ≡ 32
-  still_sized = length-set s.rows (t - 1) r ∙ s.sized
+module _ (s : TaskTable) (t : ℕ) (x : Option Task) (rows : List rows_of.Row) (is : rows ≡ with_held s.rows t x) where
+  order_same : chain (s.first ∷ map link rows) ≡ (view s).order
+  order_same = ap (λ z. chain (s.first ∷ map link z)) is ∙ ap (λ z. chain (s.first ∷ z)) (links_same s.rows t x)
 
-  pub still_ends : Ends (s.first ∷ map link (set s.rows (t - 1) r))
-  still_ends = subst (λ z. Ends (s.first ∷ z)) (sym (links_same s.rows t x r is)) s.ends
+  pub still_ends : Ends (s.first ∷ map link rows)
+  still_ends = subst (λ z. Ends (s.first ∷ z)) (sym (ap (map link) is ∙ links_same s.rows t x)) s.ends
 
-  pub still_inside : 0 < in_use (task (view s) t) → 0 < times t (chain (s.first ∷ map link (set s.rows (t - 1) r)))
-  still_inside used = let e = ap (times t) order_same in let h = s.holds t in omega arith
+  tasks_are : map held rows ≡ set (view s).tasks (t - 1) x
+  tasks_are = ap (map held) is ∙ tasks_set s.rows t x
+
+  -- and then linked anew
+  module _ (rows' : List rows_of.Row) (h : ℕ) (kept : Kept relinked rows rows') where
+    tasks_after : map held rows' ≡ set (view s).tasks (t - 1) x
+    tasks_after = tasks_kept rows rows' kept ∙ tasks_are
+
+    order_put : chain (h ∷ map link rows') ≡ by_rank (map (λ y. rank (held y)) rows) t (chain (s.first ∷ map link rows)) → chain (h ∷ map link rows') ≡ by_rank (map rank (set (view s).tasks (t - 1) x)) t (view s).order
+    order_put e =
+        e ∙ ap₂ (λ ranks xs. by_rank ranks t xs) (sym (map-map rank held rows) ∙ ap (map rank) tasks_are) order_same
+
+    order_taken : chain (h ∷ map link rows') ≡ without t (chain (s.first ∷ map link rows)) → chain (h ∷ map link rows') ≡ without t (view s).order
+    order_taken e = e ∙ ap (without t) order_same
 
 -- ---- task t is in use no longer
 
-module _ (s : TaskTable) (t : ℕ) (row : Row 32 t) (r : TaskRow) (is : r ≡ cleared (get_or s.rows (t - 1) empty)) (rows' : List TaskRow) (h : ℕ) (kept : Kept relinked (set s.rows (t - 1) r) rows') (took : chain (h ∷ map link rows') ≡ without t (chain (s.first ∷ map link (set s.rows (t - 1) r)))) where
-  tasks_left : map held rows' ≡ set (view s).tasks (t - 1) None
-  tasks_left = tasks_after s.rows t None r is rows' s.first h kept
+module _ (s : TaskTable) (t : ℕ) (used : is_some (task (view s) t) ≡ true) where
+  pub still_inside : 0 < times t (chain (s.first ∷ map link (emptied s.rows t)))
+  still_inside =
+      let e = ap (times t) (order_same s t None (emptied s.rows t) refl) in
+      let h = s.holds t in
+      let u = some_used (task (view s) t) used in
+      omega arith
 
-  order_left : chain (h ∷ map link rows') ≡ without t (view s).order
-  order_left = order_taken s.rows t None r is rows' s.first h kept took
+  pub emptied_ends : Ends (s.first ∷ map link (emptied s.rows t))
+  emptied_ends = still_ends s t None (emptied s.rows t) refl
 
-  pub removed_holds : changes.Holds (map held rows') (chain (h ∷ map link rows'))
-  removed_holds = holds_at _ _ _ _ tasks_left order_left (changes.removed_holds (view s).tasks (view s).order s.holds s.falls t (row_here s t None row r is))
+  row : Row (length (view s).tasks) t
+  row = row_here s t (used_number s t used)
 
-  pub removed_falls : changes.Falls (map held rows') (chain (h ∷ map link rows'))
-  removed_falls = falls_at _ _ _ _ tasks_left order_left (changes.removed_falls (view s).tasks (view s).order s.holds s.falls t (row_here s t None row r is))
+  module _ (rows' : List rows_of.Row) (h : ℕ) (kept : Kept relinked (emptied s.rows t) rows') (took : chain (h ∷ map link rows') ≡ without t (chain (s.first ∷ map link (emptied s.rows t)))) where
+    tasks_left : map held rows' ≡ set (view s).tasks (t - 1) None
+    tasks_left = tasks_after s t None (emptied s.rows t) refl rows' h kept
 
-  pub removed_view : as_view (map held rows') (chain (h ∷ map link rows')) ≡ removed (view s) t
-  removed_view = ap₂ as_view tasks_left order_left
+    order_left : chain (h ∷ map link rows') ≡ without t (view s).order
+    order_left = order_taken s t None (emptied s.rows t) refl rows' h kept took
 
-  pub removed_spare : task_at (map held rows') t ≡ None
-  removed_spare = ap (λ z. task_at z t) tasks_left ∙ task_same (view s).tasks t None (row_here s t None row r is)
+    pub removed_holds : changes.Holds (map held rows') (chain (h ∷ map link rows'))
+    removed_holds = holds_at _ _ _ _ tasks_left order_left (changes.removed_holds (view s).tasks (view s).order s.holds s.falls t row)
 
-  pub removed_others : (p : ℕ) → others_have (map held rows') t p ≡ others_have (view s).tasks t p
-  removed_others p = ap (λ z. others_have z t p) tasks_left ∙ others_set (view s).tasks t None p row.0
+    pub removed_falls : changes.Falls (map held rows') (chain (h ∷ map link rows'))
+    removed_falls = falls_at _ _ _ _ tasks_left order_left (changes.removed_falls (view s).tasks (view s).order s.holds s.falls t row)
 
-module _ (s : TaskTable) (t : ℕ) (x : Task) (row : Row 32 t) (r : TaskRow) (is : r ≡ holding (get_or s.rows (t - 1) empty) x) where
+    pub removed_view : as_view (map held rows') (chain (h ∷ map link rows')) ≡ removed (view s) t
+    removed_view = ap₂ as_view tasks_left order_left
+
+-- its priority is as free for it as before
+pub still_alone : (s s' : TaskTable) (t p : ℕ) → view s' ≡ removed (view s) t → is_some (task (view s) t) ≡ true → others_have (view s).tasks t p ≡ false → others_have (view s').tasks t p ≡ false
+still_alone s s' t p is used alone =
+    ap (λ z. others_have z.tasks t p) is ∙ others_set (view s).tasks t None p (used_number s t used).0 ∙ alone
+
+module _ (s : TaskTable) (t : ℕ) (x : Task) (rows : List rows_of.Row) (is : rows ≡ with_held s.rows t (Some x)) where
   -- ---- task t is written
 
   module _ (same : priority_of (task (view s) t) ≡ Some x.priority) where
-    pub written_holds : changes.Holds (map held (set s.rows (t - 1) r)) (chain (s.first ∷ map link (set s.rows (t - 1) r)))
-    written_holds = holds_at _ _ _ _ (tasks_set s.rows t (Some x) r is) (order_same s t (Some x) row r is) (changes.written_holds (view s).tasks (view s).order s.holds s.falls t x (row_here s t (Some x) row r is) same)
+    pub written_holds : changes.Holds (map held rows) (chain (s.first ∷ map link rows))
+    written_holds = holds_at _ _ _ _ (tasks_are s t (Some x) rows is) (order_same s t (Some x) rows is) (changes.written_holds (view s).tasks (view s).order s.holds s.falls t x (row_here s t (at_priority_row s t x.priority same)) same)
 
-    pub written_falls : changes.Falls (map held (set s.rows (t - 1) r)) (chain (s.first ∷ map link (set s.rows (t - 1) r)))
-    written_falls = falls_at _ _ _ _ (tasks_set s.rows t (Some x) r is) (order_same s t (Some x) row r is) (changes.written_falls (view s).tasks (view s).order s.holds s.falls t x (row_here s t (Some x) row r is) same)
+    pub written_falls : changes.Falls (map held rows) (chain (s.first ∷ map link rows))
+    written_falls = falls_at _ _ _ _ (tasks_are s t (Some x) rows is) (order_same s t (Some x) rows is) (changes.written_falls (view s).tasks (view s).order s.holds s.falls t x (row_here s t (at_priority_row s t x.priority same)) same)
 
-  pub written_view : as_view (map held (set s.rows (t - 1) r)) (chain (s.first ∷ map link (set s.rows (t - 1) r))) ≡ written (view s) t x
-  written_view = ap₂ as_view (tasks_set s.rows t (Some x) r is) (order_same s t (Some x) row r is)
+  pub written_view : as_view (map held rows) (chain (s.first ∷ map link rows)) ≡ written (view s) t x
+  written_view = ap₂ as_view (tasks_are s t (Some x) rows is) (order_same s t (Some x) rows is)
 
   -- ---- task t comes into use
 
-  module _ (spare : task (view s) t ≡ None) where
-    pub still_outside : times t (chain (s.first ∷ map link (set s.rows (t - 1) r))) ≡ 0
-    still_outside = ap (times t) (order_same s t (Some x) row r is) ∙ changes.outside (view s).tasks (view s).order s.holds s.falls t x (row_here s t (Some x) row r is) spare
+  module _ (row : Row 32 t) (spare : task (view s) t ≡ None) where
+    pub still_outside : times t (chain (s.first ∷ map link rows)) ≡ 0
+    still_outside = ap (times t) (order_same s t (Some x) rows is) ∙ changes.outside (view s).tasks (view s).order s.holds s.falls t x (row_here s t row) spare
 
-    module _ (rows' : List TaskRow) (h : ℕ) (kept : Kept relinked (set s.rows (t - 1) r) rows') (put : chain (h ∷ map link rows') ≡ by_rank (map (λ y. rank (held y)) (set s.rows (t - 1) r)) t (chain (s.first ∷ map link (set s.rows (t - 1) r)))) where
-      tasks_are : map held rows' ≡ with_task (view s).tasks t x
-      tasks_are = tasks_after s.rows t (Some x) r is rows' s.first h kept
-
-      order_is : chain (h ∷ map link rows') ≡ by_rank (map rank (with_task (view s).tasks t x)) t (view s).order
-      order_is = order_put s.rows t (Some x) r is rows' s.first h kept put
-
+    module _ (rows' : List rows_of.Row) (h : ℕ) (kept : Kept relinked rows rows') (put : chain (h ∷ map link rows') ≡ by_rank (map (λ y. rank (held y)) rows) t (chain (s.first ∷ map link rows))) where
       pub added_holds : changes.Holds (map held rows') (chain (h ∷ map link rows'))
-      added_holds = holds_at _ _ _ _ tasks_are order_is (changes.added_holds (view s).tasks (view s).order s.holds s.falls t x (row_here s t (Some x) row r is) spare)
+      added_holds = holds_at _ _ _ _ (tasks_after s t (Some x) rows is rows' h kept) (order_put s t (Some x) rows is rows' h kept put) (changes.added_holds (view s).tasks (view s).order s.holds s.falls t x (row_here s t row) spare)
 
       pub added_falls : others_have (view s).tasks t x.priority ≡ false → changes.Falls (map held rows') (chain (h ∷ map link rows'))
-      added_falls alone = falls_at _ _ _ _ tasks_are order_is (changes.added_falls (view s).tasks (view s).order s.holds s.falls t x (row_here s t (Some x) row r is) spare alone)
+      added_falls alone = falls_at _ _ _ _ (tasks_after s t (Some x) rows is rows' h kept) (order_put s t (Some x) rows is rows' h kept put) (changes.added_falls (view s).tasks (view s).order s.holds s.falls t x (row_here s t row) spare alone)
 
       pub added_view : as_view (map held rows') (chain (h ∷ map link rows')) ≡ added (view s) t x
-      added_view = ap₂ as_view tasks_are order_is
+      added_view = ap₂ as_view (tasks_after s t (Some x) rows is rows' h kept) (order_put s t (Some x) rows is rows' h kept put)

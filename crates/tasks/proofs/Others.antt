@@ -1,13 +1,11 @@
 -- The search for another task at a priority.
-use Rattle.std.proofs.Common.{◌≡◌, ℕ, zero, suc, ◌+◌, ◌-◌, ◌<◌, ◌≤◌, Bool, true, false, cond, not, eqb, ◌≢◌, List, [], ◌∷◌, map, length, get_or, drop, set, Some, None, Option, sym, refl, ap, ◌∙◌, ap₂, ⊎_elim, add-one, arith}
-use lib.ListN.{length-map, get_or-map}
-use Rattle.std.proofs.lemmas.List.{at_drop_more, at_drop_all}
+use Rattle.std.proofs.Common.{◌≡◌, ℕ, zero, suc, ◌+◌, ◌-◌, ◌<◌, Bool, true, false, cond, not, ◌||◌, eqb, ◌≢◌, List, [], ◌∷◌, map, get_or, set, Some, None, Option, sym, refl, ap, ◌∙◌, ⊎_elim, add-one, arith}
 use Rattle.std.proofs.lemmas.Bool.{cases_Bool, both_ways, cond-true, cond-false, eq-eqb, ne_eqb, and_from, and_left, not_from_true, not_from_false}
+use Rattle.std.specs.List.{list_any, enumerate_from}
 use Rattle.tasks.specs.declared.rows.Task.{Task}
-use Rattle.tasks.specs.declared.rows.TaskRow.{TaskRow}
-use Rattle.tasks.specs.Use.{empty, rank, in_use, task_at, has, other_has, others_from}
+use Rattle.tasks.specs.Use.{rank, in_use, task_at, has, other_has, others_from}
 use Rattle.tasks.specs.View.{others_have}
-use Rattle.tasks.proofs.Links.{held}
+use Rattle.tasks.proofs.Links.{Row, held}
 
 has_rank : (x : Option Task) (p : ℕ) → 0 < in_use x → rank x ≡ p → has x p ≡ true
 has_rank (Some x) p u e = eq-eqb x.priority p e
@@ -42,13 +40,11 @@ others_from-set m (y ∷ ys) (suc k) x t p e =
 pub others_set : (tasks : List (Option Task)) (t : ℕ) (x : Option Task) (p : ℕ) → 0 < t → others_have (set tasks (t - 1) x) t p ≡ others_have tasks t p
 others_set tasks t x p h = others_from-set 1 tasks (t - 1) x t p (omega arith)
 
--- one row on, where the test of it gave b
-pub others_step : (rows : List TaskRow) (i t p : ℕ) → i < length rows → (b : Bool) → b ≡ other_has (i + 1) (get_or rows i empty).task t p → others_from (i + 1) (drop i (map held rows)) t p ≡ cond b true (others_from (i + 1 + 1) (drop (i + 1) (map held rows)) t p)
-others_step rows i t p h b e =
-    let tasks = map held rows in
-    let is : b ≡ other_has (i + 1) (get_or tasks i None) t p = e ∙ sym (ap (λ x. other_has (i + 1) x t p) (get_or-map held rows i empty)) in
-    at_drop_more (λ z. others_from (i + 1) z t p) tasks i None (omega (arith, length-map rows held)) ∙
-    ap₂ (λ d n. cond d true (others_from n (drop (i + 1) tasks) t p)) (sym is) (sym (add-one (i + 1)))
+test_or_on : (b z w : Bool) → z ≡ w → (b || z) ≡ cond b true w
+test_or_on true z w e = refl
+test_or_on false z w e = e
 
-pub others_end : (rows : List TaskRow) (i t p : ℕ) → length rows ≤ i → others_from (i + 1) (drop i (map held rows)) t p ≡ false
-others_end rows i t p h = at_drop_all (λ z. others_from (i + 1) z t p) (map held rows) i (omega (arith, length-map rows held))
+-- the search as a test of rows with their places
+pub others_any : (k : ℕ) (rows : List Row) (t p : ℕ) → list_any (λ r. other_has (r.0 + 1) (held r.1) t p) (enumerate_from k rows) ≡ others_from (k + 1) (map held rows) t p
+others_any k [] t p = refl
+others_any k (r ∷ rows) t p = test_or_on (other_has (k + 1) (held r) t p) _ _ (others_any (k + 1) rows t p ∙ ap (λ m. others_from m (map held rows) t p) (add-one (k + 1)))

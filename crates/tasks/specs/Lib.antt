@@ -1,3 +1,4 @@
 pub mod Use
+pub mod Order
 pub mod View
 pub mod Priorities

@@ -1,12 +1,12 @@
 -- What the order of the tasks goes by: which numbers are in use, and at which priorities.
 use Rattle.std.specs.Prelude.{ℕ, suc, Bool, true, false, cond, not, ◌&&◌, List, [], ◌∷◌, Some, None, Option, ◌==◌, nat_le, nat_lt, slice_index_or}
+use Rattle.chain.specs.Ranks.{rank_or_none}
+use Rattle.chain.specs.declared.rows.Linked.{Linked}
 use Rattle.tasks.specs.declared.rows.Task.{Task}
-use Rattle.tasks.specs.declared.rows.TaskRow.{TaskRow}
 
 -- The task's priority, and 0 where there is none.
 abbrev pub rank : Option Task → ℕ
-rank (Some x) = x.priority
-rank None = 0
+rank = rank_or_none (λ x. x.priority)
 
 -- 1 for a task, and 0 for none.
 abbrev pub in_use : Option Task → ℕ
@@ -14,16 +14,16 @@ in_use (Some x) = 1
 in_use None = 0
 
 -- A row without a task.
-abbrev pub empty : TaskRow
-empty = record { task = None; next = 0 }
+abbrev pub empty : Linked (Option Task)
+empty = record { item = None; next = 0 }
 
 -- The row with the task x, and its link as it was.
-abbrev pub holding : TaskRow → Task → TaskRow
-holding r x = record { task = Some x; next = r.next }
+abbrev pub holding : Linked (Option Task) → Task → Linked (Option Task)
+holding r x = record { item = Some x; next = r.next }
 
 -- The row without a task, and its link as it was.
-abbrev pub cleared : TaskRow → TaskRow
-cleared r = record { task = None; next = r.next }
+abbrev pub cleared : Linked (Option Task) → Linked (Option Task)
+cleared r = record { item = None; next = r.next }
 
 -- A task can have the number n.
 abbrev pub numbers : ℕ → Bool

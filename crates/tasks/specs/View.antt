@@ -1,6 +1,5 @@
 -- The table of tasks as two lists: the tasks, and the order of those in use.
-use Rattle.std.specs.Prelude.{ℕ, ◌-◌, ◌<◌, Bool, List, [], ◌∷◌, map, replicate, Some, None, Option, ◌≢◌, slice_set}
-use Rattle.chain.specs.Times.{times}
+use Rattle.std.specs.Prelude.{ℕ, ◌-◌, Bool, List, [], ◌∷◌, map, replicate, Some, None, Option, slice_set}
 use Rattle.chain.specs.Chain.{chain, by_rank, without}
 use Rattle.tasks.specs.declared.rows.Task.{Task}
 use Rattle.tasks.specs.declared.table.TaskTable.{TaskTable}
@@ -16,11 +15,7 @@ abbrev pub links : TaskTable → List ℕ
 links t = t.first ∷ map (λ r. r.next) t.rows
 
 abbrev pub view : TaskTable → View
-view t = record { tasks = map (λ r. r.task) t.rows; order = chain (links t) }
-
--- A walk down the order has come to `at`: a task of it, or 0 past its end.
-abbrev pub Met : TaskTable → ℕ → Type 0
-Met t at = (at ≢ 0) → 0 < times at (view t).order
+view t = record { tasks = map (λ r. r.item) t.rows; order = chain (links t) }
 
 -- Task t. No task has the number 0, or one past 32.
 abbrev pub task : View → ℕ → Option Task

@@ -1,34 +1,23 @@
-use Rattle.std.proofs.Common.{◌<◌, ◌∷◌, map, length, sym, refl, ap, ◌∙◌, subst, arith, length-set}
-use Rattle.chain.specs.Chain.{Row, Ends, chain}
-use Rattle.chain.specs.Times.{times}
-use Rattle.packets.proofs.Moves.{link, put_onto, put_outside, put_ends, put_placed, put_shape}
+use Rattle.std.proofs.Common.{◌∙◌, length-set}
+use Rattle.packets.proofs.Moves.{put_written}
 use Rattle.packets.proofs.table.PacketTable.enlist.Goals as goal
-
-pub put_last-requires : goal.put_last-requires
-put_last-requires c =
-    let t = c.args.self.now in
-    let at : c.args.i < length t.heads = omega arith in
-    let row : Row (length t.rows) c.args.n = (c.requires.row.0, omega (arith, c.requires.row.1)) in
-    record { ends = subst (λ h. Ends (h ∷ map link t.rows)) (sym c.requires.head) (t.ends c.args.i); row = row; outside = ap (λ h. times c.args.n (chain (h ∷ map link t.rows))) c.requires.head ∙ put_outside t.rows t.rows t.heads c.args.i 0 c.args.n c.args.to refl at t.ends t.placed t.sized.0 c.requires.row c.requires.off c.requires.on }
 
 pub invariant_of-self : goal.invariant_of-self
 invariant_of-self c =
     let t = c.args.self.now in
-    let rows' = c.put_last.new.rows in
-    let at : c.args.i < length t.heads = omega arith in
-    let row : Row (length t.rows) c.args.n = (c.requires.row.0, omega (arith, c.requires.row.1)) in
     let e = c.put_last.ensures in
-    let len = c.put_last.auto.rows in
+    let i = c.index-i.ensures in
+    let n = c.get-n.ensures in
+    let p = put_written t c.put_last.new.rows _ _ _ _ _ _ c.args.to i.is i.bound n.is n.row c.requires.head c.requires.off c.requires.on c.put_last.auto.rows e.kept e.becomes in
     record {
-      sized = (length-set rows' _ _ ∙ len ∙ t.sized.0, length-set t.heads _ _ ∙ t.sized.1);
-      ends = put_ends t.rows rows' t.heads c.args.i c.put_last.result c.args.n c.args.to len at t.ends t.placed t.sized.0 c.requires.row c.requires.off c.requires.on e.kept (put_onto _ _ _ _ _ _ c.requires.head e.becomes);
-      placed = put_placed t.rows rows' t.heads c.args.i c.put_last.result c.args.n c.args.to len at t.ends t.placed t.sized.0 c.requires.row c.requires.off c.requires.on e.kept (put_onto _ _ _ _ _ _ c.requires.head e.becomes);
+      sized = (length-set c.put_last.new.rows _ _ ∙ c.put_last.auto.rows ∙ t.sized.0, length-set t.heads _ _ ∙ t.sized.1);
+      ends = p.0;
+      placed = p.1;
     }
 
 pub returns : goal.returns
 returns c =
-    let t = c.args.self.now in
-    let at : c.args.i < length t.heads = omega arith in
-    let row : Row (length t.rows) c.args.n = (c.requires.row.0, omega (arith, c.requires.row.1)) in
     let e = c.put_last.ensures in
-    put_shape t.rows c.put_last.new.rows t.heads c.args.i c.put_last.result c.args.n c.args.to c.put_last.auto.rows at t.ends t.placed t.sized.0 c.requires.row c.requires.off c.requires.on e.kept (put_onto _ _ _ _ _ _ c.requires.head e.becomes)
+    let i = c.index-i.ensures in
+    let n = c.get-n.ensures in
+    (put_written c.args.self.now c.put_last.new.rows _ _ _ _ _ _ c.args.to i.is i.bound n.is n.row c.requires.head c.requires.off c.requires.on c.put_last.auto.rows e.kept e.becomes).2

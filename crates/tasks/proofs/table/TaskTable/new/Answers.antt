@@ -19,13 +19,13 @@ none_at x e m (suc n) = none_used x e m n
 
 pub invariant_of-result : goal.invariant_of-result
 invariant_of-result c =
-    let r = c.unused.result in
+    let r = c.empty_row.result in
     let none = chain_none (0 ∷ map link (replicate 32 r)) refl in
-    let spare = ap (λ z. in_use (held z)) c.unused.ensures in
+    let spare = ap (λ z. in_use (held z)) c.empty_row.ensures in
     record { sized = refl; ends = none.1; holds = λ n. ap (times n) none.0 ∙ sym (none_at (held r) spare 32 n); falls = ap (falling (map rank (replicate 32 (held r)))) none.0 }
 
 pub returns : goal.returns
 returns c =
-    let r = c.unused.result in
+    let r = c.empty_row.result in
     let shown : List (Option Task) → List ℕ → View = λ ts xs. record { tasks = ts; order = xs } in
-    ap₂ shown (ap (λ z. replicate 32 (held z)) c.unused.ensures) (chain_none (0 ∷ map link (replicate 32 r)) refl).0
+    ap₂ shown (ap (λ z. replicate 32 (held z)) c.empty_row.ensures) (chain_none (0 ∷ map link (replicate 32 r)) refl).0
