@@ -3,3 +3,4 @@ pub mod Running
 pub mod Moves
 pub mod View
 pub mod Kept
+pub mod Sound

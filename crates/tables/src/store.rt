@@ -1,4 +1,6 @@
 // What a kernel holds of tasks and packets.
+ghost use Rattle.tables.specs.Sound.{AreSound};
+
 use packets::table::PacketTable;
 use tasks::table::TaskTable;
 
@@ -6,4 +8,6 @@ use tasks::table::TaskTable;
 pub struct Tables {
     pub(crate) packets: PacketTable,
     pub(crate) tasks: TaskTable,
+    // What every kernel keeps, and that the task that runs is the runnable one of greatest priority.
+    pub ghost sound: { ∥ AreSound tasks packets ∥₁ },
 }

@@ -1,35 +1,30 @@
-use Rattle.std.proofs.Common.{arith}
-use Rattle.listing.proofs.Rows.{none_written, at_row, room, less, row_written, all_count, all_rows}
+use Rattle.std.proofs.Common.{length, ap, ◌∙◌, inl, arith}
+use Rattle.tables.specs.View.{view}
+use Rattle.listing.proofs.Rows.{order_room, none_written, room, row_written}
 use Rattle.listing.proofs.write_rows.Goals as goal
 
-pub loop-at-init : goal.loop-at-init
-loop-at-init c = none_written c.args.tables.now c.args.rows.now _ c.top-at.ensures.is
+pub loop-i-init : goal.loop-i-init
+loop-i-init c =
+    let same = c.into_iter-i-iterator.ensures.into_iter_gives in
+    let none = ap (λ e. e.count) same ∙ c.enumerate-i-items.ensures.count in
+    let all = ap (λ e. e.iter) same ∙ c.enumerate-i-items.ensures.source ∙ c.order.ensures in
+    let few = order_room c.args.tables.now in
+    ((tt, tt, inl (omega (arith, none, ap length all, few))), tt, none_written (view c.args.tables.now) c.args.rows.now _ _ all none)
 
-pub row_of-requires : goal.row_of-requires
-row_of-requires c = at_row c.args.tables.now _ _ _ _ c.loop-at.invariant c.loop-at-test.true
+pub bounds-rows-i : goal.bounds-rows-i
+bounds-rows-i c =
+    let steps = c.in-Some.ensures.steps in
+    let r = room _ _ _ _ _ c.loop-i.invariant.2 in
+    omega (arith, r, ap length steps.0, steps.1, order_room c.args.tables.now, c.requires, c.loop-i.auto.rows)
 
-pub overflow_cast-count : goal.overflow_cast-count
-overflow_cast-count c = omega (arith, room c.args.tables.now _ _ _ _ c.loop-at.invariant c.loop-at-test.true)
+pub loop-i-preserved : goal.loop-i-preserved
+loop-i-preserved c =
+    let steps = c.in-Some.ensures.steps in
+    let few = order_room c.args.tables.now in
+    let r = room _ _ _ _ _ c.loop-i.invariant.2 in
+    let left = ap length steps.0 in
+    let w = c.loop-i.invariant.2 in
+    ((tt, tt, inl (omega (arith, r, left, steps.2, few))), tt, row_written _ _ _ _ _ w _ _ steps.0 (omega (arith, r, left, few, c.requires)) _ _ _ steps.1 steps.2 c.row_of.ensures)
 
-pub offset_bounds-rows-count : goal.offset_bounds-rows-count
-offset_bounds-rows-count c = omega (arith, room c.args.tables.now _ _ _ _ c.loop-at.invariant c.loop-at-test.true)
-
-pub bounds-rows-count : goal.bounds-rows-count
-bounds-rows-count c = omega (arith, room c.args.tables.now _ _ _ _ c.loop-at.invariant c.loop-at-test.true)
-
-pub overflow_add-count : goal.overflow_add-count
-overflow_add-count c = omega (arith, room c.args.tables.now _ _ _ _ c.loop-at.invariant c.loop-at-test.true)
-
-pub task_after-at-requires : goal.task_after-at-requires
-task_after-at-requires c = at_row c.args.tables.now _ _ _ _ c.loop-at.invariant c.loop-at-test.true
-
-pub loop-at-smaller : goal.loop-at-smaller
-loop-at-smaller c = less c.args.tables.now _ _ _ _ c.loop-at.invariant c.loop-at-test.true _ c.task_after-at.ensures
-
-pub loop-at-preserved : goal.loop-at-preserved
-loop-at-preserved c = row_written c.args.tables.now _ _ _ _ c.loop-at.invariant c.loop-at-test.true _ c.task_after-at.ensures c.requires _ c.row_of.ensures
-
-pub returns : goal.returns
-returns c =
-    let tb = c.args.tables.now in
-    record { count = all_count tb _ _ _ _ c.loop-at.invariant c.loop-at-test.false; kept = c.top-at.ensures.kept; rows = all_rows tb _ _ _ _ c.loop-at.invariant c.loop-at-test.false }
+pub overflow_cast-result : goal.overflow_cast-result
+overflow_cast-result c = let e = ap length c.order-2.ensures in let bound = c.count.ensures.bound in omega (arith, e, bound, order_room c.args.tables.now)

@@ -1,34 +1,17 @@
-use Rattle.std.proofs.Common.{sym, refl, ap, ◌∙◌, arith}
-use Rattle.chain.specs.Chain.{rest}
-use Rattle.tasks.specs.View.{links}
-use Rattle.tables.specs.Running.{first_runnable}
+use Rattle.std.proofs.Common.{rules, sym, ◌∙◌}
+use borrow.Author.Tests.{tests}
+use Rattle.std.proofs.lemmas.Iterator.Adapters.{option_map_id}
+use Rattle.std.proofs.lemmas.Iterator.Consumers.{YieldsList-from_first}
+use Rattle.std.proofs.lemmas.Iterator.Search.{find_from_yields_List}
+use Rattle.tables.specs.Running.{runnable}
 use Rattle.tables.specs.View.{view}
-use Rattle.tables.proofs.Runs.{run_row, run_step, run_less, run_met, run_end}
+use Rattle.tables.proofs.Runs.{sound}
 use Rattle.tables.proofs.store.Tables.first_runnable.Goals as goal
 
-pub loop-at-init : goal.loop-at-init
-loop-at-init c = (c.requires, refl)
-
-pub runnable-requires : goal.runnable-requires
-runnable-requires c = let r = run_row c.args.self.now c.loop-at.at c.loop-at.invariant.0 c.loop-at-test.true in record { task = omega (arith, r.1) }
-
-pub returns-then-runnable : goal.returns-then-runnable
-returns-then-runnable c =
-    sym (run_step c.args.self.now c.loop-at.at c.loop-at.invariant.0 c.loop-at-test.true _ c.if-runnable.ensures) ∙ c.loop-at.invariant.1
-
-pub next-at-requires : goal.next-at-requires
-next-at-requires c = run_row c.args.self.now c.loop-at.at c.loop-at.invariant.0 c.loop-at-test.true
-
-pub loop-at-smaller : goal.loop-at-smaller
-loop-at-smaller c = run_less c.args.self.now c.loop-at.at c.loop-at.invariant.0 c.loop-at-test.true _ c.next-at.ensures
-
-pub loop-at-preserved : goal.loop-at-preserved
-loop-at-preserved c =
-    let tb = c.args.self.now in (
-      run_met tb c.loop-at.at c.loop-at.invariant.0 c.loop-at-test.true _ c.next-at.ensures,
-      ap (λ z. first_runnable (view tb) (rest (links tb.tasks) z)) c.next-at.ensures ∙
-          sym (run_step tb c.loop-at.at c.loop-at.invariant.0 c.loop-at-test.true _ c.if-runnable.ensures) ∙ c.loop-at.invariant.1,
-    )
-
 pub returns : goal.returns
-returns c = sym (run_end c.args.self.now c.loop-at.at c.loop-at-test.false) ∙ c.loop-at.invariant.1
+returns c =
+    let tb = c.args.self.now in
+    record {
+      is = sym (option_map_id _) ∙ find_from_yields_List (runnable (view tb)) _ _ _ c.find.ensures.ran (YieldsList-from_first (λ x. x) (λ o. o) _ c.order.ensures) (λ x b q k. search (rules, tests));
+      greatest = (sound tb.tasks tb.packets).greatest;
+    }
