@@ -13,9 +13,13 @@ use Rattle.calls.specs.declared.Call.TheVariants.{Create, Delete, ChangePriority
 use Rattle.calls.specs.declared.Refusal.{Refusal}
 use Rattle.calls.specs.Questions.{Question, first_no, create_asks, create_call_asks, delete_asks, priority_asks, hold_asks, release_asks, set_flags_asks, test_flags_asks, claim_asks, drop_asks, send_asks, wait_asks}
 
+-- The answer with that outcome in state s names the task that runs there.
+abbrev pub named : State → Result ℕ Refusal → Answer
+named s r = record { outcome = r; running = running s }
+
 -- The answer names the task that runs in the state that the call leaves.
 abbrev pub answered : State → Result ℕ Refusal → State × Answer
-answered s r = (s, record { outcome = r; running = running s })
+answered s r = (s, named s r)
 
 -- Either the call is refused, or its effect is the state and the value `done`.
 abbrev pub decided : State → Option Refusal → State × ℕ → State × Answer
@@ -83,6 +87,10 @@ step s c = decided s (first_no s (asks c)) (done s c)
 -- The call, its answer and the state that it leaves are what `step` says.
 abbrev pub Steps : State → Call → Answer → State → Type 0
 Steps s c r s' = ◌≡◌ {A = State × Answer} (s', r) (step s c)
+
+-- The same, told by the outcome alone.
+abbrev pub Comes : State → Call → Result ℕ Refusal → State → Type 0
+Comes s c r s' = Steps s c (named s' r) s'
 
 -- ---- before the kernel is started
 

@@ -7,27 +7,27 @@ ghost use Rattle.calls.specs.Numbers.{refusal_number, call_code};
 pub mod answers;
 pub mod questions;
 
-// Why a call is refused: each is a question that was answered no.
-#[derive(Clone, Copy)]
+// Why a call is refused: each is a question that was answered no, under its number.
+#[derive(Clone, Copy, Debug, PartialEq, Eq)]
 pub enum Refusal {
-    NoTaskRunning,
-    RunnerNotReady,
-    NoSuchTask,
-    NoSuchUnit,
-    NoSuchPacket,
-    NotInHands,
-    BadPriority,
-    PriorityTaken,
-    TaskInUse,
-    NoPacketFree,
-    AlreadyHeld,
-    NotHeld,
-    TaskNotIdle,
-    PacketsOut,
-    UnitFull,
-    NotThere,
-    SetDisagrees,
-    TooFewRows,
+    NoTaskRunning = 1,
+    RunnerNotReady = 2,
+    NoSuchTask = 3,
+    NoSuchUnit = 4,
+    NoSuchPacket = 5,
+    NotInHands = 6,
+    BadPriority = 7,
+    PriorityTaken = 8,
+    TaskInUse = 9,
+    NoPacketFree = 10,
+    AlreadyHeld = 11,
+    NotHeld = 12,
+    TaskNotIdle = 13,
+    PacketsOut = 14,
+    UnitFull = 15,
+    NotThere = 16,
+    SetDisagrees = 17,
+    TooFewRows = 22,
 }
 
 impl Refusal {
@@ -35,31 +35,12 @@ impl Refusal {
     pub fn number(self) -> u32
         ensures { result ≡ refusal_number self }
     {
-        match self {
-            Refusal::NoTaskRunning => 1,
-            Refusal::RunnerNotReady => 2,
-            Refusal::NoSuchTask => 3,
-            Refusal::NoSuchUnit => 4,
-            Refusal::NoSuchPacket => 5,
-            Refusal::NotInHands => 6,
-            Refusal::BadPriority => 7,
-            Refusal::PriorityTaken => 8,
-            Refusal::TaskInUse => 9,
-            Refusal::NoPacketFree => 10,
-            Refusal::AlreadyHeld => 11,
-            Refusal::NotHeld => 12,
-            Refusal::TaskNotIdle => 13,
-            Refusal::PacketsOut => 14,
-            Refusal::UnitFull => 15,
-            Refusal::NotThere => 16,
-            Refusal::SetDisagrees => 17,
-            Refusal::TooFewRows => 22,
-        }
+        self as u32
     }
 }
 
 // A call with its arguments: any words, and for an address any signed one.
-#[derive(Clone, Copy)]
+#[derive(Clone, Copy, Debug, PartialEq, Eq)]
 pub enum Call {
     Create {
         task: u32,
@@ -100,40 +81,28 @@ pub enum Call {
 }
 
 impl Call {
-    // The code by which scripts and answers name the call.
+    // The code by which scripts and answers name the call: the one definition of the codes, since calls have fields and no discriminants.
     pub fn code(self) -> u8
         ensures { result ≡ call_code self }
     {
         match self {
-            Call::Create {
-                task: _,
-                priority: _,
-            } => 1,
-            Call::Delete { task: _ } => 2,
-            Call::ChangePriority {
-                task: _,
-                priority: _,
-            } => 3,
-            Call::Hold { task: _ } => 4,
-            Call::Release { task: _ } => 5,
-            Call::SetFlags { task: _, bits: _ } => 6,
-            Call::TestFlags { bits: _ } => 7,
+            Call::Create { .. } => 1,
+            Call::Delete { .. } => 2,
+            Call::ChangePriority { .. } => 3,
+            Call::Hold { .. } => 4,
+            Call::Release { .. } => 5,
+            Call::SetFlags { .. } => 6,
+            Call::TestFlags { .. } => 7,
             Call::Claim => 8,
-            Call::Drop { packet: _ } => 9,
-            Call::Send {
-                address: _,
-                packet: _,
-                kind: _,
-                first: _,
-                second: _,
-            } => 10,
+            Call::Drop { .. } => 9,
+            Call::Send { .. } => 10,
             Call::Wait => 12,
         }
     }
 }
 
-// The value, or why the call was refused; and the task that runs then, 0 for none.
-#[derive(Clone, Copy)]
+// The value, or why the call was refused; and the task that runs then, by the number that answers have: 0 for none.
+#[derive(Clone, Copy, Debug, PartialEq, Eq)]
 pub struct Answer {
     pub outcome: Result<u32, Refusal>,
     pub running: u8,

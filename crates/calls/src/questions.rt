@@ -1,126 +1,163 @@
 // The questions that calls ask before they do anything.
-ghost use Rattle.std.specs.Prelude.{◌≡◌, true, false, None as Nothing};
+ghost use Rattle.std.specs.Prelude.{◌≡◌, [], ◌∷◌, true, false, cond, Some as Just, None as Nothing, IfOk, OnOk};
 ghost use Rattle.chain.specs.Chain.{Row};
+ghost use Rattle.std.specs.Result.{result_err};
 ghost use Rattle.packets.specs.Places.{handed};
 ghost use Rattle.tasks.specs.View.{others_have};
 ghost use Rattle.tables.specs.State.{task as task_at, used as in_use, packet as packet_at};
+ghost use Rattle.tables.specs.Running.{running};
 ghost use Rattle.tables.specs.View.{view};
-ghost use Rattle.calls.specs.Questions.{first_no, yes, task_runs, runner_ready, task_known, packet_in_hands, hands_of, caller_asks, task_asks, drop_asks, create_asks};
+ghost use Rattle.calls.specs.Questions.{first_no, yes, task_runs, task_known, priority_known, priority_alone, packet_in_hands, caller_asks, task_asks, drop_asks, create_asks, wait_asks, address_asks, task_ready, between};
+ghost use Rattle.calls.specs.Steps.{task_of};
+ghost use Rattle.calls.specs.declared.Refusal.TheVariants.{BadPriority};
 
 use crate::Refusal;
+use numbers::{PacketNumber, TaskNumber};
 use packets::rows::Place;
 use tables::running::ready;
 use tables::store::Tables;
+use tasks::rows::Task;
 
-// Whether the place is the hands of task t.
-fn is_hands(place: Place, t: u8) -> bool
-    ensures is { result ≡ hands_of t place }
-    ensures off { result ≡ true → handed place ≡ true }
-{
-    match place {
-        Place::Hands(k) => k == t,
-        Place::Free => false,
-        Place::Queue(_) => false,
-    }
+// A task that may be created.
+#[derive(Clone, Copy, Debug, PartialEq, Eq)]
+pub struct NewTask {
+    pub number: TaskNumber,
+    pub priority: u16,
 }
 
 // Is a task running?
 pub fn task_runs(tables: &Tables) -> bool
     ensures { result ≡ yes (view tables.now) task_runs }
 {
-    tables.running() != 0
+    tables.runner().is_some()
 }
 
-// Is the running task ready?
-fn runner_ready(tables: &Tables) -> bool
-    ensures { result ≡ yes (view tables.now) runner_ready }
+fn is_ready(task: Option<Task>) -> bool
+    ensures { result ≡ task_ready task }
 {
-    match tables.task(tables.running()) {
-        Some(task) => ready(task.condition),
-        None => false,
-    }
+    task.is_some_and(|task| ready(task.condition))
 }
 
-// Is the packet in the running task's hands?
-fn in_hands(tables: &Tables, n: u8) -> bool
+// Is the packet in the hands of the running task?
+fn in_hands(tables: &Tables, n: PacketNumber) -> bool
     ensures is { result ≡ yes (view tables.now) (packet_in_hands n) }
     ensures off { result ≡ true → handed (packet_at (view tables.now) n).place ≡ true }
 {
-    is_hands(tables.packet(n).place, tables.running())
+    tables.packet(n.get()).place == Place::Hands(tables.running())
+}
+
+// The task, if its number is between 1 and 32 and in use: question 3.
+fn task_in_use(tables: &Tables, task: u32) -> Result<TaskNumber, Refusal>
+    ensures asked { result_err result ≡ first_no (view tables.now) (task_known task ∷ []) }
+    ensures is { IfOk result (λ t. t ≡ task) }
+    ensures used { OnOk result (in_use (view tables.now) task ≡ true) }
+{
+    let t = TaskNumber::try_from(task).map_err(|_| Refusal::NoSuchTask)?;
+    if tables.task(t.get()).is_none() {
+        return Err(Refusal::NoSuchTask);
+    }
+    Ok(t)
 }
 
 // Is the task number between 1 and 32 and in use?
 pub fn task_known(tables: &Tables, t: u32) -> bool
     ensures { result ≡ yes (view tables.now) (task_known t) }
 {
-    t >= 1 && t <= 32 && tables.task(t as u8).is_some()
+    task_in_use(tables, t).is_ok()
 }
 
-// Why the running task may not make a call, if it may not: questions 1 and 2.
-pub fn no_caller(tables: &Tables) -> Option<Refusal>
-    ensures { result ≡ first_no (view tables.now) caller_asks }
+// The running task: question 1.
+pub fn runner(tables: &Tables) -> Result<TaskNumber, Refusal>
+    ensures asked { result_err result ≡ first_no (view tables.now) wait_asks }
+    ensures is { IfOk result (λ t. t ≡ running (view tables.now)) }
 {
-    if !task_runs(tables) {
-        return Some(Refusal::NoTaskRunning);
-    }
-    if !runner_ready(tables) {
-        return Some(Refusal::RunnerNotReady);
-    }
-    None
+    tables.runner().ok_or(Refusal::NoTaskRunning)
 }
 
-// Why the running task may not call for the task, if it may not: questions 1, 2 and 3.
-pub fn no_task(tables: &Tables, task: u32) -> Option<Refusal>
-    ensures asked { result ≡ first_no (view tables.now) (task_asks task) }
-    ensures row { result ≡ Nothing → Row 32 task }
-    ensures used { result ≡ Nothing → in_use (view tables.now) task ≡ true }
+// The running task, if it may make a call: questions 1 and 2.
+pub fn caller(tables: &Tables) -> Result<TaskNumber, Refusal>
+    ensures asked { result_err result ≡ first_no (view tables.now) caller_asks }
+    ensures is { IfOk result (λ t. t ≡ running (view tables.now)) }
 {
-    if let Some(refusal) = no_caller(tables) {
-        return Some(refusal);
+    let t = runner(tables)?;
+    if !is_ready(tables.task(t.get())) {
+        return Err(Refusal::RunnerNotReady);
     }
-    if !task_known(tables, task) {
-        return Some(Refusal::NoSuchTask);
-    }
-    None
+    Ok(t)
 }
 
-// Why the running task may not hand on the packet, if it may not: questions 1, 2, 5 and 6.
-pub fn no_packet(tables: &Tables, packet: u32) -> Option<Refusal>
-    ensures asked { result ≡ first_no (view tables.now) (drop_asks packet) }
-    ensures row { result ≡ Nothing → Row 64 packet }
-    ensures off { result ≡ Nothing → handed (packet_at (view tables.now) packet).place ≡ true }
+// The task, if the running task may call for it: questions 1, 2 and 3.
+pub fn known_task(tables: &Tables, task: u32) -> Result<TaskNumber, Refusal>
+    ensures asked { result_err result ≡ first_no (view tables.now) (task_asks task) }
+    ensures is { IfOk result (λ t. t ≡ task) }
+    ensures used { OnOk result (in_use (view tables.now) task ≡ true) }
 {
-    if let Some(refusal) = no_caller(tables) {
-        return Some(refusal);
-    }
-    if packet < 1 || packet > 64 {
-        return Some(Refusal::NoSuchPacket);
-    }
-    if !in_hands(tables, packet as u8) {
-        return Some(Refusal::NotInHands);
-    }
-    None
+    caller(tables)?;
+    task_in_use(tables, task)
 }
 
-// Why the task may not be created, if it may not: questions 3 (the range alone), 9, 7 and 8.
-pub fn no_creation(tables: &Tables, task: u32, priority: u32) -> Option<Refusal>
-    ensures asked { result ≡ first_no (view tables.now) (create_asks task priority) }
-    ensures row { result ≡ Nothing → Row 32 task }
-    ensures unused { result ≡ Nothing → task_at (view tables.now) task ≡ Nothing }
-    ensures alone { result ≡ Nothing → others_have (view tables.now).tasks task priority ≡ false }
-    ensures priority { result ≡ Nothing → Row 65535 priority }
+// The packet, if the running task may hand it on: questions 1, 2, 5 and 6.
+pub fn packet_in_hand(tables: &Tables, packet: u32) -> Result<PacketNumber, Refusal>
+    ensures asked { result_err result ≡ first_no (view tables.now) (drop_asks packet) }
+    ensures is { IfOk result (λ n. n ≡ packet) }
+    ensures off { OnOk result (handed (packet_at (view tables.now) packet).place ≡ true) }
 {
-    if task < 1 || task > 32 {
-        return Some(Refusal::NoSuchTask);
+    caller(tables)?;
+    let n = PacketNumber::try_from(packet).map_err(|_| Refusal::NoSuchPacket)?;
+    if !in_hands(tables, n) {
+        return Err(Refusal::NotInHands);
     }
-    if tables.task(task as u8).is_some() {
-        return Some(Refusal::TaskInUse);
+    Ok(n)
+}
+
+// The priority, if it is one: question 7.
+fn known_priority(priority: u32) -> Result<u16, Refusal>
+    ensures asked { result_err result ≡ cond (between 1 65535 priority) Nothing (Just BadPriority) }
+    ensures is { IfOk result (λ p. p ≡ priority) }
+{
+    match u16::try_from(priority) {
+        Ok(priority) if priority >= 1 => Ok(priority),
+        _ => Err(Refusal::BadPriority),
     }
-    if priority < 1 || priority > 65535 {
-        return Some(Refusal::BadPriority);
+}
+
+// The priority, if it is one that no task but t has: questions 7 and 8.
+pub fn free_priority(tables: &Tables, t: TaskNumber, priority: u32) -> Result<u16, Refusal>
+    ensures asked { result_err result ≡ first_no (view tables.now) (priority_known priority ∷ (priority_alone t priority ∷ [])) }
+    ensures is { IfOk result (λ p. p ≡ priority) }
+    ensures some { OnOk result (Row 65535 priority) }
+    ensures alone { OnOk result (others_have (view tables.now).tasks t priority ≡ false) }
+{
+    let priority = known_priority(priority)?;
+    if tables.priority_taken(t.get(), priority) {
+        return Err(Refusal::PriorityTaken);
     }
-    if tables.priority_taken(task as u8, priority as u16) {
-        return Some(Refusal::PriorityTaken);
+    Ok(priority)
+}
+
+// The task with its priority, if it may be created: questions 3 (the range alone), 9, 7 and 8.
+pub fn creatable(tables: &Tables, task: u32, priority: u32) -> Result<NewTask, Refusal>
+    ensures asked { result_err result ≡ first_no (view tables.now) (create_asks task priority) }
+    ensures number { IfOk result (λ new. new.number ≡ task) }
+    ensures priority { IfOk result (λ new. new.priority ≡ priority) }
+    ensures some { OnOk result (Row 65535 priority) }
+    ensures unused { OnOk result (task_at (view tables.now) task ≡ Nothing) }
+    ensures alone { OnOk result (others_have (view tables.now).tasks task priority ≡ false) }
+{
+    let number = TaskNumber::try_from(task).map_err(|_| Refusal::NoSuchTask)?;
+    if tables.task(number.get()).is_some() {
+        return Err(Refusal::TaskInUse);
     }
-    None
+    let priority = free_priority(tables, number, priority)?;
+    Ok(NewTask { number, priority })
+}
+
+// The task of an address: question 4 where it is a unit's, since no unit is there yet, and else question 3.
+pub fn receiver(tables: &Tables, address: i32) -> Result<TaskNumber, Refusal>
+    ensures asked { result_err result ≡ first_no (view tables.now) (address_asks address ∷ []) }
+    ensures is { IfOk result (λ t. t ≡ task_of address) }
+    ensures used { OnOk result (in_use (view tables.now) (task_of address) ≡ true) }
+{
+    let task = u32::try_from(address).map_err(|_| Refusal::NoSuchUnit)?;
+    task_in_use(tables, task)
 }

@@ -1,7 +1,7 @@
 -- Questions that were answered yes.
-use Rattle.std.proofs.Common.{◌≡◌, ℕ, zero, suc, ◌-◌, ◌<◌, ◌≤◌, true, false, cond, eqb, leb, ◌⊎◌, List, [], ◌∷◌, length, get_or, Some, None, Ok, Err, Option, Result, sym, refl, ap, ◌∙◌, inl, inr, ⊎_elim, arith}
+use Rattle.std.proofs.Common.{◌≡◌, ℕ, zero, suc, ◌-◌, ◌<◌, ◌≤◌, true, false, cond, eqb, leb, ◌⊎◌, List, [], ◌∷◌, length, get_or, Some, None, Ok, Err, Option, Result, refl, ap, ◌∙◌, inl, inr, ⊎_elim, arith}
 use Rattle.std.specs.Option.{option_map}
-use Rattle.std.proofs.lemmas.Bool.{cases_Bool, both_ways, cond-true, cond-false, and_parts, or_cases, leb-true, not-true, eqb-true, eqb-false}
+use Rattle.std.proofs.lemmas.Bool.{cases_Bool, both_ways, and_parts, or_cases, leb-true, not-true, eqb-true, eqb-false, or_parts}
 use Rattle.chain.specs.Chain.{Row}
 use Rattle.packets.specs.declared.rows.Packet.{Packet}
 use Rattle.packets.specs.declared.rows.Place.{Place}
@@ -69,15 +69,10 @@ runner s k runs =
 
 -- ---- packets at home
 
-none_parts : (t : ℕ) (p : Packet) (ps : List Packet) → any_involves t (p ∷ ps) ≡ false → (involves t p ≡ false) × (any_involves t ps ≡ false)
-none_parts t p ps e =
-    ⊎_elim (λ y. absurd (both_ways true (sym (cond-true (involves t p) true (any_involves t ps) y) ∙ e) refl))
-    (λ n. (n, sym (cond-false (involves t p) true (any_involves t ps) n) ∙ e)) (cases_Bool (involves t p))
-
 none_involves : (t : ℕ) (ps : List Packet) → any_involves t ps ≡ false → (i : ℕ) (d : Packet) → i < length ps → involves t (get_or ps i d) ≡ false
 none_involves t [] e i d h = absurd (omega arith)
-none_involves t (p ∷ ps) e zero d h = (none_parts t p ps e).0
-none_involves t (p ∷ ps) e (suc i) d h = none_involves t ps (none_parts t p ps e).1 i d (omega arith)
+none_involves t (p ∷ ps) e zero d h = (or_parts (involves t p) (any_involves t ps) e).0
+none_involves t (p ∷ ps) e (suc i) d h = none_involves t ps (or_parts (involves t p) (any_involves t ps) e).1 i d (omega arith)
 
 pub home : (s : State) → Kept s → (t : ℕ) → yes s (packets_home t) ≡ true → (n : ℕ) → 0 < n → n ≤ 64 → involves t (packet s n) ≡ false
 home s k t e n a b =

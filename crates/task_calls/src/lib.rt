@@ -1,61 +1,46 @@
-// The calls by which tasks create, delete and change tasks.
+// The calls by which tasks create, delete and change tasks. Each is an attempt, and an answer made of its outcome: one function of both
+// would have to take the attempt as a closure over the tables, for two lines.
 #![tactic(auto)]
 
-ghost use Rattle.std.specs.Prelude.{◌≡◌, ◌-◌, false, None as Nothing, bit_and};
-ghost use Rattle.chain.specs.Chain.{Row};
-ghost use Rattle.tasks.specs.View.{others_have};
+ghost use Rattle.std.specs.Prelude.{◌≡◌, ◌-◌, bit_and, if◌then◌else◌};
 ghost use Rattle.tables.specs.State.{task as task_at};
-ghost use Rattle.tables.specs.Running.{Greatest};
-ghost use Rattle.tables.specs.Kept.{Kept};
 ghost use Rattle.tables.specs.View.{view};
 ghost use Rattle.calls.specs.declared.Call.TheVariants.{Create as create_call, Delete as delete_call, ChangePriority as priority_call, Hold as hold_call, Release as release_call, SetFlags as set_call, TestFlags as test_call};
-ghost use Rattle.calls.specs.Questions.{first_no, create_call_asks, yes, task_held, task_idle, task_dormant};
-ghost use Rattle.calls.specs.Steps.{Steps, flags_of};
+ghost use Rattle.calls.specs.Questions.{yes, task_held, task_idle, task_dormant};
+ghost use Rattle.calls.specs.Steps.{Steps, Comes, flags_of};
 
-use calls::answers::{done, refused};
-use calls::questions::{no_caller, no_creation, no_task};
+use calls::answers::answer;
+use calls::questions::{caller, creatable, free_priority, known_task};
 use calls::{Answer, Refusal};
+use numbers::TaskNumber;
 use tables::store::Tables;
 use tasks::rows::{Condition, Task};
 
 // Is the task held?
-fn is_held(tables: &Tables, t: u8) -> bool
+fn is_held(tables: &Tables, t: TaskNumber) -> bool
     ensures { result ≡ yes (view tables.now) (task_held t) }
 {
-    match tables.task(t) {
-        Some(task) => task.held,
-        None => false,
-    }
+    tables.task(t.get()).is_some_and(|task| task.held)
 }
 
 fn is_dormant(task: Option<Task>) -> bool
     ensures { result ≡ task_dormant task }
 {
-    match task {
-        Some(task) => match task.condition {
-            Condition::Dormant => true,
-            Condition::Ready => false,
-            Condition::Waiting => false,
-        },
-        None => false,
-    }
+    task.is_some_and(|task| task.condition == Condition::Dormant)
 }
 
 // Is the task running or dormant?
-fn is_idle(tables: &Tables, t: u8) -> bool
+fn is_idle(tables: &Tables, t: TaskNumber) -> bool
     ensures { result ≡ yes (view tables.now) (task_idle t) }
 {
-    t == tables.running() || is_dormant(tables.task(t))
+    tables.runner() == Some(t) || is_dormant(tables.task(t.get()))
 }
 
 // The flags of task t; a number that is not in use has none.
-fn flags(tables: &Tables, t: u8) -> u32
+fn flags(tables: &Tables, t: TaskNumber) -> u32
     ensures { result ≡ flags_of (task_at (view tables.now) t) }
 {
-    match tables.task(t) {
-        Some(task) => task.flags,
-        None => 0,
-    }
+    tables.task(t.get()).map_or(0, |task| task.flags)
 }
 
 // The flags without those that are among the bits.
@@ -65,128 +50,121 @@ fn cleared(flags: u32, bits: u32) -> u32
     flags - (flags & bits)
 }
 
-// Why the running task may not create the task, if it may not: questions 1, 2, 3 (the range alone), 9, 7 and 8.
-fn no_new_task(tables: &Tables, task: u32, priority: u32) -> Option<Refusal>
-    ensures asked { result ≡ first_no (view tables.now) (create_call_asks task priority) }
-    ensures row { result ≡ Nothing → Row 32 task }
-    ensures unused { result ≡ Nothing → task_at (view tables.now) task ≡ Nothing }
-    ensures alone { result ≡ Nothing → others_have (view tables.now).tasks task priority ≡ false }
-    ensures priority { result ≡ Nothing → Row 65535 priority }
+fn try_create(tables: &mut Tables, task: u32, priority: u32) -> Result<u32, Refusal>
+    ensures { Comes (view tables.old) (create_call task priority) result (view tables.new) }
 {
-    if let Some(refusal) = no_caller(tables) {
-        return Some(refusal);
-    }
-    no_creation(tables, task, priority)
+    caller(tables)?;
+    let new = creatable(tables, task, priority)?;
+    tables.add_task(new.number, new.priority);
+    Ok(0)
 }
 
 // Brings a task into use: dormant, not held, flags 0.
 pub fn create(tables: &mut Tables, task: u32, priority: u32) -> Answer
-    ensures step { Steps (view tables.old) (create_call task priority) result (view tables.new) }
-    ensures greatest { Greatest (view tables.new) result.running }
-    ensures kept { Kept (view tables.new) }
+    ensures { Steps (view tables.old) (create_call task priority) result (view tables.new) }
 {
-    if let Some(refusal) = no_new_task(tables, task, priority) {
-        return refused(tables, refusal);
+    let outcome = try_create(tables, task, priority);
+    answer(tables, outcome)
+}
+
+fn try_delete(tables: &mut Tables, task: u32) -> Result<u32, Refusal>
+    ensures { Comes (view tables.old) (delete_call task) result (view tables.new) }
+{
+    let t = known_task(tables, task)?;
+    if !is_idle(tables, t) {
+        return Err(Refusal::TaskNotIdle);
     }
-    tables.add_task(task as u8, priority as u16);
-    done(tables, 0)
+    if tables.involved(t.get()) {
+        return Err(Refusal::PacketsOut);
+    }
+    tables.remove_task(t.get());
+    Ok(0)
 }
 
 // Deletes a task that is running or dormant, if no packet is with it or bears it as sender.
 pub fn delete(tables: &mut Tables, task: u32) -> Answer
-    ensures step { Steps (view tables.old) (delete_call task) result (view tables.new) }
-    ensures greatest { Greatest (view tables.new) result.running }
-    ensures kept { Kept (view tables.new) }
+    ensures { Steps (view tables.old) (delete_call task) result (view tables.new) }
 {
-    if let Some(refusal) = no_task(tables, task) {
-        return refused(tables, refusal);
-    }
-    if !is_idle(tables, task as u8) {
-        return refused(tables, Refusal::TaskNotIdle);
-    }
-    if tables.involved(task as u8) {
-        return refused(tables, Refusal::PacketsOut);
-    }
-    tables.remove_task(task as u8);
-    done(tables, 0)
+    let outcome = try_delete(tables, task);
+    answer(tables, outcome)
+}
+
+fn try_change_priority(tables: &mut Tables, task: u32, priority: u32) -> Result<u32, Refusal>
+    ensures { Comes (view tables.old) (priority_call task priority) result (view tables.new) }
+{
+    let t = known_task(tables, task)?;
+    let priority = free_priority(tables, t, priority)?;
+    tables.set_priority(t.get(), priority);
+    Ok(0)
 }
 
 // Gives a task another priority; it runs from then on if it is the runnable one of greatest priority.
 pub fn change_priority(tables: &mut Tables, task: u32, priority: u32) -> Answer
-    ensures step { Steps (view tables.old) (priority_call task priority) result (view tables.new) }
-    ensures greatest { Greatest (view tables.new) result.running }
-    ensures kept { Kept (view tables.new) }
+    ensures { Steps (view tables.old) (priority_call task priority) result (view tables.new) }
 {
-    if let Some(refusal) = no_task(tables, task) {
-        return refused(tables, refusal);
+    let outcome = try_change_priority(tables, task, priority);
+    answer(tables, outcome)
+}
+
+// Holds a task, or releases it.
+fn try_set_held(tables: &mut Tables, task: u32, held: bool) -> Result<u32, Refusal>
+    ensures { Comes (view tables.old) (if held then hold_call task else release_call task) result (view tables.new) }
+{
+    let t = known_task(tables, task)?;
+    match (is_held(tables, t), held) {
+        (true, true) => return Err(Refusal::AlreadyHeld),
+        (false, false) => return Err(Refusal::NotHeld),
+        _ => tables.set_held(t.get(), held),
     }
-    if priority < 1 || priority > 65535 {
-        return refused(tables, Refusal::BadPriority);
-    }
-    if tables.priority_taken(task as u8, priority as u16) {
-        return refused(tables, Refusal::PriorityTaken);
-    }
-    tables.set_priority(task as u8, priority as u16);
-    done(tables, 0)
+    Ok(0)
 }
 
 // Holds a task: it is not runnable until it is released.
 pub fn hold(tables: &mut Tables, task: u32) -> Answer
-    ensures step { Steps (view tables.old) (hold_call task) result (view tables.new) }
-    ensures greatest { Greatest (view tables.new) result.running }
-    ensures kept { Kept (view tables.new) }
+    ensures { Steps (view tables.old) (hold_call task) result (view tables.new) }
 {
-    if let Some(refusal) = no_task(tables, task) {
-        return refused(tables, refusal);
-    }
-    if is_held(tables, task as u8) {
-        return refused(tables, Refusal::AlreadyHeld);
-    }
-    tables.set_held(task as u8, true);
-    done(tables, 0)
+    let outcome = try_set_held(tables, task, true);
+    answer(tables, outcome)
 }
 
 // Releases a task that is held.
 pub fn release(tables: &mut Tables, task: u32) -> Answer
-    ensures step { Steps (view tables.old) (release_call task) result (view tables.new) }
-    ensures greatest { Greatest (view tables.new) result.running }
-    ensures kept { Kept (view tables.new) }
+    ensures { Steps (view tables.old) (release_call task) result (view tables.new) }
 {
-    if let Some(refusal) = no_task(tables, task) {
-        return refused(tables, refusal);
-    }
-    if !is_held(tables, task as u8) {
-        return refused(tables, Refusal::NotHeld);
-    }
-    tables.set_held(task as u8, false);
-    done(tables, 0)
+    let outcome = try_set_held(tables, task, false);
+    answer(tables, outcome)
+}
+
+fn try_set_flags(tables: &mut Tables, task: u32, bits: u32) -> Result<u32, Refusal>
+    ensures { Comes (view tables.old) (set_call task bits) result (view tables.new) }
+{
+    let t = known_task(tables, task)?;
+    let before = flags(tables, t);
+    tables.set_flags(t.get(), before | bits);
+    Ok(0)
 }
 
 // Adds the bits to a task's flags.
 pub fn set_flags(tables: &mut Tables, task: u32, bits: u32) -> Answer
-    ensures step { Steps (view tables.old) (set_call task bits) result (view tables.new) }
-    ensures greatest { Greatest (view tables.new) result.running }
-    ensures kept { Kept (view tables.new) }
+    ensures { Steps (view tables.old) (set_call task bits) result (view tables.new) }
 {
-    if let Some(refusal) = no_task(tables, task) {
-        return refused(tables, refusal);
-    }
-    let before = flags(tables, task as u8);
-    tables.set_flags(task as u8, before | bits);
-    done(tables, 0)
+    let outcome = try_set_flags(tables, task, bits);
+    answer(tables, outcome)
+}
+
+fn try_test_flags(tables: &mut Tables, bits: u32) -> Result<u32, Refusal>
+    ensures { Comes (view tables.old) (test_call bits) result (view tables.new) }
+{
+    let t = caller(tables)?;
+    let before = flags(tables, t);
+    tables.set_flags(t.get(), cleared(before, bits));
+    Ok(before & bits)
 }
 
 // Tells which of the bits are among the running task's flags, and clears these.
 pub fn test_flags(tables: &mut Tables, bits: u32) -> Answer
-    ensures step { Steps (view tables.old) (test_call bits) result (view tables.new) }
-    ensures greatest { Greatest (view tables.new) result.running }
-    ensures kept { Kept (view tables.new) }
+    ensures { Steps (view tables.old) (test_call bits) result (view tables.new) }
 {
-    if let Some(refusal) = no_caller(tables) {
-        return refused(tables, refusal);
-    }
-    let t = tables.running();
-    let before = flags(tables, t);
-    tables.set_flags(t, cleared(before, bits));
-    done(tables, before & bits)
+    let outcome = try_test_flags(tables, bits);
+    answer(tables, outcome)
 }
