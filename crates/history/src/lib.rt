@@ -4,7 +4,7 @@
 ghost use Rattle.std.specs.Prelude.{◌≡◌, is_ok, IfOk, OnOk, if◌then◌else◌};
 ghost use Rattle.tables.specs.Moves.{fresh};
 ghost use Rattle.calls.specs.Steps.{start};
-ghost use Rattle.kernel.specs.View.{furnished, state};
+ghost use Rattle.kernel.specs.View.{state};
 ghost use Rattle.history.specs.History.{replies, furnish, answers, after, Parts};
 ghost use Rattle.history.specs.Law.{Law};
 ghost use Rattle.history.specs.Sound.{SoundAlong};
@@ -14,25 +14,26 @@ pub mod creations;
 use calls::{Answer, Call, Refusal};
 use creations::Creation;
 use kernel::furnishing::open;
-use kernel::phases::{Furnishing, Started};
+use kernel::phases::{Furnishing, Kernel, Started};
 use std::alloc::{AllocError, Global};
 
 // What a history leaves: the kernel after the last call, the reply to each create, and the answer to each call.
 #[derive(Drop)]
 pub struct History {
-    pub kernel: Started,
+    pub kernel: Kernel<Started>,
     pub replies: Vec<Result<(), Refusal>>,
     pub answers: Vec<Answer>,
 }
 
-// Makes the creates in order.
+// Makes the creates in order. This loop and that of the calls stay apart: one function that took the create or the call as a closure
+// could say nothing of its answers, since such a closure changes the kernel that it holds.
 fn make_creates(
-    room: &mut Furnishing,
+    room: &mut Kernel<Furnishing>,
     creates: &[Creation],
     heap: Global,
 ) -> Result<Vec<Result<(), Refusal>>, AllocError>
-    ensures replied { IfOk result (λ v. v.items ≡ replies (furnished room.old) creates.now) }
-    ensures furnished { OnOk result (furnished room.new ≡ furnish (furnished room.old) creates.now) }
+    ensures replied { IfOk result (λ v. v.items ≡ replies (state room.old) creates.now) }
+    ensures furnished { OnOk result (state room.new ≡ furnish (state room.old) creates.now) }
 {
     let mut collected = Vec::with_capacity(heap, creates.len())?;
     for create in creates {
@@ -43,7 +44,11 @@ fn make_creates(
 }
 
 // Makes the calls in order. Room for every answer is taken before the first call.
-fn make_calls(kernel: &mut Started, calls: &[Call], heap: Global) -> Result<Vec<Answer>, AllocError>
+fn make_calls(
+    kernel: &mut Kernel<Started>,
+    calls: &[Call],
+    heap: Global,
+) -> Result<Vec<Answer>, AllocError>
     ensures answered { IfOk result (λ v. v.items ≡ answers (state kernel.old) calls.now) }
     ensures moved { state kernel.new ≡ (if is_ok result then after (state kernel.old) calls.now else state kernel.old) }
     ensures sound { OnOk result (SoundAlong (state kernel.old) calls.now) }
@@ -56,8 +61,13 @@ fn make_calls(kernel: &mut Started, calls: &[Call], heap: Global) -> Result<Vec<
     Ok(gathered)
 }
 
-// Makes the calls in order and keeps their answers. Where memory is wanting, no call was made.
-pub fn run(kernel: &mut Started, calls: &[Call], heap: Global) -> Result<Vec<Answer>, AllocError>
+// Makes the calls in order and keeps their answers. Where memory is wanting, no call was made. The loop stands in a function of its
+// own: its proof file would hide a change of this one.
+pub fn run(
+    kernel: &mut Kernel<Started>,
+    calls: &[Call],
+    heap: Global,
+) -> Result<Vec<Answer>, AllocError>
     ensures answered { IfOk result (λ v. v.items ≡ answers (state kernel.old) calls.now) }
     ensures moved { state kernel.new ≡ (if is_ok result then after (state kernel.old) calls.now else state kernel.old) }
     ensures sound { OnOk result (SoundAlong (state kernel.old) calls.now) }
@@ -67,13 +77,13 @@ pub fn run(kernel: &mut Started, calls: &[Call], heap: Global) -> Result<Vec<Ans
 
 // Starts a kernel that the creates have furnished, and makes the calls.
 fn from_start(
-    room: Furnishing,
+    room: Kernel<Furnishing>,
     creates: &[Creation],
     given: Vec<Result<(), Refusal>>,
     calls: &[Call],
     heap: Global,
 ) -> Result<History, AllocError>
-    requires room { furnished room ≡ furnish fresh creates.now }
+    requires room { state room ≡ furnish fresh creates.now }
     requires replied { given.items ≡ replies fresh creates.now }
     ensures replied { IfOk result (λ h. h.replies.items ≡ replies fresh creates.now) }
     ensures answered { IfOk result (λ h. h.answers.items ≡ answers (start (furnish fresh creates.now)) calls.now) }

@@ -1,15 +1,7 @@
--- The state of a kernel in each of its phases.
+-- The state of a kernel, in whichever phase it is.
 use Rattle.tables.specs.State.{State}
 use Rattle.tables.specs.View.{view}
-use Rattle.kernel.specs.declared.phases.Furnishing.{Furnishing}
-use Rattle.kernel.specs.declared.phases.Started.{Started}
-use Rattle.kernel.specs.declared.phases.Stopped.{Stopped}
+use Rattle.kernel.specs.declared.phases.Kernel.{Kernel}
 
-abbrev pub furnished : Furnishing → State
-furnished k = view k.tables
-
-abbrev pub state : Started → State
+abbrev pub state : {P : Type 0} → Kernel P → State
 state k = view k.tables
-
-abbrev pub left : Stopped → State
-left k = view k.tables

@@ -4,42 +4,42 @@ ghost use Rattle.tables.specs.State.{State};
 ghost use Rattle.tables.specs.Moves.{fresh};
 ghost use Rattle.calls.specs.declared.Refusal.{Refusal as Why};
 ghost use Rattle.calls.specs.Steps.{create, start as started};
-ghost use Rattle.kernel.specs.View.{furnished, state};
+ghost use Rattle.kernel.specs.View.{state};
 
-use super::phases::{Furnishing, Started};
+use super::phases::{Furnishing, Kernel, Started};
 use calls::Refusal;
-use calls::questions::no_creation;
+use calls::questions::creatable;
 use tables::store::Tables;
 use tasks::rows::Condition;
 
 // A kernel to be furnished: no task is in use, and every packet is free.
-pub fn open() -> Furnishing
-    ensures { furnished result ≡ fresh }
+pub fn open() -> Kernel<Furnishing>
+    ensures { state result ≡ fresh }
 {
-    Furnishing {
-        tables: Tables::new(),
-    }
+    Kernel::with(Tables::new())
 }
 
-impl Furnishing {
+impl Kernel<Furnishing> {
     // Creates a task: dormant, not held, flags 0.
     pub fn create(&mut self, task: u32, priority: u32) -> Result<(), Refusal>
-        ensures { ◌≡◌ {A = State × Result (Unit {0}) Why} (furnished self.new, result) (create (furnished self.old) task priority) }
+        ensures { ◌≡◌ {A = State × Result (Unit {0}) Why} (state self.new, result) (create (state self.old) task priority) }
     {
-        if let Some(refusal) = no_creation(&self.tables, task, priority) {
-            return Err(refusal);
-        }
-        self.tables.add_task(task as u8, priority as u16);
+        let new = creatable(&self.tables, task, priority)?;
+        self.tables.add_task(new.number, new.priority);
         Ok(())
     }
 
     // Makes the task of greatest priority ready, if there is one, and takes calls from then on.
-    pub fn start(self) -> Started
-        ensures { state result ≡ started (furnished self) }
+    pub fn start(self) -> Kernel<Started>
+        ensures { state result ≡ started (state self) }
     {
-        let Furnishing { mut tables } = self;
-        let top = tables.top();
-        tables.set_condition(top, Condition::Ready);
-        Started { tables }
+        let Kernel {
+            mut tables,
+            phase: _,
+        } = self;
+        if let Some(t) = tables.top() {
+            tables.set_condition(t.get(), Condition::Ready);
+        }
+        Kernel::with(tables)
     }
 }

@@ -2,9 +2,10 @@
 #![tactic(auto)]
 
 pub mod furnishing;
+pub mod laws;
+pub mod lists;
 pub mod phases;
 pub mod started;
-pub mod stopped;
 
 // The calls, refusals and answers, for whoever uses a kernel.
 pub use calls;

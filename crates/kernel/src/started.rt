@@ -1,71 +1,55 @@
 // A kernel that takes calls.
-ghost use Rattle.std.specs.Prelude.{◌≡◌, true, is_ok};
+ghost use Rattle.std.specs.Prelude.{◌≡◌};
 ghost use Rattle.tables.specs.State.{packet as packet_at};
 ghost use Rattle.tables.specs.Running.{running, Greatest};
-ghost use Rattle.tables.specs.Kept.{Kept};
-ghost use Rattle.listing.specs.Listed.{listed};
 ghost use Rattle.calls.specs.declared.Call.TheVariants.{Claim as claim_call, Drop as drop_call, Send as send_call, Wait as wait_call};
 ghost use Rattle.calls.specs.Steps.{Steps};
-ghost use Rattle.kernel.specs.Listing.{list_answer};
-ghost use Rattle.kernel.specs.View.{state, left};
+ghost use Rattle.kernel.specs.View.{state};
 
-use super::phases::{Started, Stopped};
-use super::stopped::list_answer;
-use calls::{Answer, Call, Refusal};
-use listing::Listed;
+use super::phases::{Kernel, Started, Stopped};
+use calls::{Answer, Call};
 use packets::rows::{Packet, Place};
 
-impl Started {
-    // The runnable task of greatest priority, or 0 where no task is runnable.
+impl Kernel<Started> {
+    // The runnable task of greatest priority, or 0 where no task is runnable: the number that an answer names.
     pub fn running(&self) -> u8
         ensures is { result ≡ running (state self.now) }
         ensures greatest { Greatest (state self.now) result }
-        ensures kept { Kept (state self.now) }
     {
         self.tables.running()
     }
 
     // The running task gets the first free packet.
     pub fn claim(&mut self) -> Answer
-        ensures step { Steps (state self.old) claim_call result (state self.new) }
-        ensures greatest { Greatest (state self.new) result.running }
-        ensures kept { Kept (state self.new) }
+        ensures { Steps (state self.old) claim_call result (state self.new) }
     {
         packet_calls::claim(&mut self.tables)
     }
 
     // The running task frees a packet that is in its hands.
     pub fn drop_packet(&mut self, packet: u32) -> Answer
-        ensures step { Steps (state self.old) (drop_call packet) result (state self.new) }
-        ensures greatest { Greatest (state self.new) result.running }
-        ensures kept { Kept (state self.new) }
+        ensures { Steps (state self.old) (drop_call packet) result (state self.new) }
     {
         packet_calls::drop_packet(&mut self.tables, packet)
     }
 
     // The running task sends a packet that is in its hands: to a task, or to the unit of the opposite sign. No unit is there yet.
     pub fn send(&mut self, address: i32, packet: u32, kind: u32, first: u32, second: u32) -> Answer
-        ensures step { Steps (state self.old) (send_call address packet kind first second) result (state self.new) }
-        ensures greatest { Greatest (state self.new) result.running }
-        ensures kept { Kept (state self.new) }
+        ensures { Steps (state self.old) (send_call address packet kind first second) result (state self.new) }
     {
         packet_calls::send(&mut self.tables, address, packet, kind, first, second)
     }
 
     // The running task waits: it takes the first packet on its queue, or else is waiting.
     pub fn wait(&mut self) -> Answer
-        ensures step { Steps (state self.old) wait_call result (state self.new) }
-        ensures greatest { Greatest (state self.new) result.running }
-        ensures kept { Kept (state self.new) }
+        ensures { Steps (state self.old) wait_call result (state self.new) }
     {
         packet_calls::wait(&mut self.tables)
     }
 
-    // Makes a call. A call that is refused changes nothing.
+    // Makes a call. A call that is refused changes nothing. Calls have arguments of their own kinds, so this is a match and no table.
     pub fn call(&mut self, call: Call) -> Answer
-        ensures step { Steps (state self.old) call result (state self.new) }
-        ensures greatest { Greatest (state self.new) result.running }
-        ensures kept { Kept (state self.new) }
+        ensures { Steps (state self.old) call result (state self.new) }
     {
         match call {
             Call::Create { task, priority } => task_calls::create(&mut self.tables, task, priority),
@@ -94,27 +78,14 @@ impl Started {
     pub fn look(&self, packet: u32) -> Packet
         ensures { result ≡ packet_at (state self.now) packet }
     {
-        if packet > 64 {
-            return Packet::blank(Place::Free);
-        }
-        self.tables.packet(packet as u8)
-    }
-
-    // Lists the tasks by falling priority, one to a row. Fewer than 32 rows are refused and stay as they were; else the answer is
-    // how many were written, and later rows stay.
-    pub fn list(&self, rows: &mut [Listed]) -> Result<u32, Refusal>
-        ensures answer { result ≡ list_answer (state self.now) rows.old }
-        ensures kept { is_ok result ≡ true → Kept (state self.now) }
-        ensures rows { rows.new ≡ listed (state self.now) rows.old }
-    {
-        list_answer(listing::list(&self.tables, rows))
+        u8::try_from(packet).map_or(Packet::blank(Place::Free), |n| self.tables.packet(n))
     }
 
     // Calls end.
-    pub fn stop(self) -> Stopped
-        ensures { left result ≡ state self }
+    pub fn stop(self) -> Kernel<Stopped>
+        ensures { state result ≡ state self }
     {
-        let Started { tables } = self;
-        Stopped { tables }
+        let Kernel { tables, phase: _ } = self;
+        Kernel::with(tables)
     }
 }

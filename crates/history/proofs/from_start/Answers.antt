@@ -1,6 +1,6 @@
 use Rattle.std.proofs.Common.{ap, ◌∙◌}
 use Rattle.calls.specs.Steps.{start}
-use Rattle.kernel.proofs.Sound.{furnished_kept}
+use Rattle.kernel.proofs.States.{state_kept}
 use Rattle.history.specs.History.{answers, after}
 use Rattle.history.proofs.Histories.{law_of}
 use Rattle.history.proofs.from_start.Goals as goal
@@ -14,5 +14,5 @@ returns c =
       replied = c.requires.replied;
       answered = made.answered ∙ ap (λ s. answers s calls) begun;
       left = made.moved ∙ ap (λ s. after s calls) begun;
-      law = law_of c.args.creates.now calls _ _ _ _ _ c.requires.room (furnished_kept c.args.room) c.start-kernel.ensures c.requires.replied made.answered made.moved made.sound;
+      law = law_of c.args.creates.now calls _ _ _ _ _ c.requires.room (state_kept c.args.room) c.start-kernel.ensures c.requires.replied made.answered made.moved made.sound;
     }
