@@ -23,12 +23,15 @@ any_bound (suc n) (suc m) [] h k = refl
 any_bound (suc n) (suc m) (b ∷ bs) h k =
     same_after (parsed_within n) (parsed_within m) (decoded (b ∷ bs)) (λ call more e. any_bound n m more (omega (arith, shorter (b ∷ bs) more call e)) (omega (arith, shorter (b ∷ bs) more call e)))
 
-pub parsed_more : (bs : List ℕ) (r : Result (Call × List ℕ) BadRecord) → 0 < length bs → r ≡ decoded bs → parsed bs ≡ after_record parsed r
+parsed_more : (bs : List ℕ) (r : Result (Call × List ℕ) BadRecord) → 0 < length bs → r ≡ decoded bs → parsed bs ≡ after_record parsed r
 unfolding parsed_within
 parsed_more [] r some e = absurd (omega arith)
 parsed_more (b ∷ bs) r some e =
     same_after (parsed_within (length bs)) parsed (decoded (b ∷ bs)) (λ call more is. any_bound (length bs) (length more) more (omega (arith, shorter (b ∷ bs) more call is)) (omega arith))
     ∙ ap (after_record parsed) (sym e)
+
+pub parsed_call : (bs more : List ℕ) (call : Call) → Ok (call, more) ≡ decoded bs → parsed bs ≡ after_call call (parsed more)
+parsed_call bs more call e = parsed_more bs (Ok (call, more)) (omega (arith, shorter bs more call e)) e
 
 pub parsed_none : parsed [] ≡ ([], None)
 unfolding parsed_within
@@ -48,9 +51,9 @@ pub fails : (bytes : List ℕ) (calls : List Call) (rest : List ℕ) (bad : BadR
 fails bytes calls rest bad sofar some e =
     (λ j. (sym (append-nil calls) j, Some bad)) ∙ ap (joined calls) (sym (parsed_more rest (Err bad) some e)) ∙ sofar
 
-pub goes : (bytes : List ℕ) (calls now_calls : List Call) (rest more : List ℕ) (call : Call) → joined calls (parsed rest) ≡ parsed bytes → 0 < length rest → Ok (call, more) ≡ decoded rest → now_calls ≡ calls ++ (call ∷ []) → joined now_calls (parsed more) ≡ parsed bytes
-goes bytes calls now_calls rest more call sofar some e pushed =
+pub goes : (bytes : List ℕ) (calls now_calls : List Call) (rest more : List ℕ) (call : Call) → joined calls (parsed rest) ≡ parsed bytes → Ok (call, more) ≡ decoded rest → now_calls ≡ calls ++ (call ∷ []) → joined now_calls (parsed more) ≡ parsed bytes
+goes bytes calls now_calls rest more call sofar e pushed =
     ap (λ l. joined l (parsed more)) pushed
     ∙ (λ j. (append_assoc calls (call ∷ []) (parsed more).0 j, (parsed more).1))
-    ∙ ap (joined calls) (sym (parsed_more rest (Ok (call, more)) some e))
+    ∙ ap (joined calls) (sym (parsed_call rest more call e))
     ∙ sofar

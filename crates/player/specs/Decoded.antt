@@ -1,5 +1,5 @@
 -- What the first record of a script says: a call and the bytes after it, or the first question that the record fails.
-use Rattle.std.specs.Prelude.{ℕ, ◌+◌, ◌*◌, cond, ◌&&◌, List, length, drop, Some, None, Ok, Err, Option, Result, ◌==◌, nat_lt, slice_index}
+use Rattle.std.specs.Prelude.{ℕ, ◌+◌, ◌*◌, cond, ◌&&◌, List, [], ◌∷◌, length, drop, Some, None, Ok, Err, Option, Result, ◌==◌, nat_lt, slice_index}
 use Rattle.std.specs.Int.{w32}
 use Rattle.std.proofs.Common.{to_z}
 use Rattle.std.specs.Borrow.{Bor}
@@ -19,6 +19,10 @@ fault_number Spare = 21
 abbrev pub word : List ℕ → ℕ → ℕ
 word bs place =
     slice_index bs (4 * place) + slice_index bs (4 * place + 1) * 256 + slice_index bs (4 * place + 2) * 65536 + slice_index bs (4 * place + 3) * 16777216
+
+-- the five words of a record
+abbrev pub words_of : List ℕ → List ℕ
+words_of bs = word bs 0 ∷ word bs 1 ∷ word bs 2 ∷ word bs 3 ∷ word bs 4 ∷ []
 
 -- the words of a send are its address, in two's complement, its packet, its type and its two arguments
 abbrev pub sent : List ℕ → Call

@@ -3,15 +3,14 @@ use Rattle.std.specs.Prelude.{ℕ, List, [], ◌∷◌, ◌++◌, map, Some, Non
 use Rattle.std.specs.List.{zip}
 use Rattle.calls.specs.declared.Answer.{Answer}
 use Rattle.calls.specs.declared.Call.{Call}
-use Rattle.calls.specs.Numbers.{call_code, refusal_of, value_of}
 use Rattle.tables.specs.State.{State}
 use Rattle.tables.specs.Running.{running}
 use Rattle.tables.specs.Moves.{fresh}
 use Rattle.calls.specs.Steps.{create, start}
 use Rattle.history.specs.History.{answers, after}
 use Rattle.player.specs.declared.lines.Line.{Line}
+use Rattle.player.specs.declared.lines.Line.TheVariants.{Made, Bad}
 use Rattle.player.specs.declared.records.BadRecord.{BadRecord}
-use Rattle.player.specs.Decoded.{fault_number}
 use Rattle.player.specs.Parsed.{Reading, parsed}
 
 -- task 1 at priority 100 and task 2 at priority 200
@@ -19,16 +18,10 @@ unfoldable pub opening : State
 opening = start (create (create fresh 1 100).0 2 200).0
 
 abbrev pub answer_line : Call × Answer → Line
-answer_line pair =
-    record {
-      code = call_code pair.0;
-      refusal = refusal_of pair.1.outcome;
-      value = value_of pair.1.outcome;
-      running = pair.1.running;
-    }
+answer_line pair = Made pair.0 pair.1
 
 abbrev pub fault_line : BadRecord → ℕ → Line
-fault_line bad task = record { code = 0; refusal = fault_number bad; value = 0; running = task }
+fault_line bad task = Bad bad task
 
 abbrev pub last_line : Option BadRecord → ℕ → List Line
 last_line None task = []

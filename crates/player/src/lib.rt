@@ -13,13 +13,14 @@ pub mod records;
 pub mod scripts;
 
 use kernel::furnishing::open;
-use kernel::phases::Started;
+use kernel::phases::{Kernel, Started};
 use lines::{Line, answer_lines, with_last};
 use scripts::parse;
 use std::alloc::{AllocError, Global};
 
 // Neither create is refused: `sample_session_prints` computes that.
-fn furnish() -> Started
+#[tactic(auto, unfolding(crate::specs::Played::opening))]
+fn furnish() -> Kernel<Started>
     ensures { state result ≡ opening }
 {
     let mut room = open();
@@ -44,12 +45,9 @@ pub fn printed(bytes: &[u8], heap: Global) -> Result<String, AllocError>
     ensures { IfOk result (λ s. string_bytes s ≡ text bytes.now) }
 {
     let lines = play(bytes, heap)?;
-    let all = lines.as_slice();
     let mut page = String::new(heap);
-    for line in all {
-        if writeln!(page, "{line}").is_err() {
-            return Err(AllocError);
-        }
+    for line in &lines {
+        writeln!(page, "{line}")?;
     }
     Ok(page)
 }

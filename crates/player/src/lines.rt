@@ -9,39 +9,26 @@ use kernel::calls::{Answer, Call};
 use std::alloc::{AllocError, Global};
 use std::fmt;
 
-// What is printed of one record: its code or 0, a refusal or 0, a value or 0, and the task that runs then.
-#[derive(Clone, Copy)]
-pub struct Line {
-    pub code: u8,
-    pub refusal: u32,
-    pub value: u32,
-    pub running: u8,
+// What is said of one record: a call that was made and its answer, or what a bad record fails and the task that runs then, 0 for none as
+// in an answer.
+#[derive(Clone, Copy, Debug, PartialEq, Eq)]
+pub enum Line {
+    Made { call: Call, answer: Answer },
+    Bad { fault: BadRecord, running: u8 },
 }
 
 impl fmt::Display for Line {
     ghost output = { λ l. Some (line_text l) };
 
+    #[tactic(auto, using(std::proofs::lemmas::Fmt::decimal_digit))]
     fn fmt<W: fmt::Write>(&self, f: &mut fmt::Formatter<W>) -> fmt::Result {
-        write!(
-            f,
-            "{} {} {} {}",
-            self.code, self.refusal, self.value, self.running
-        )
-    }
-}
-
-fn line_of(call: Call, answer: Answer) -> Line
-    ensures { result ≡ answer_line (call, answer) }
-{
-    let (refusal, value) = match answer.outcome {
-        Ok(value) => (0, value),
-        Err(why) => (why.number(), 0),
-    };
-    Line {
-        code: call.code(),
-        refusal,
-        value,
-        running: answer.running,
+        match self {
+            Line::Made { call, answer } => match answer.outcome {
+                Ok(value) => write!(f, "{} 0 {value} {}", call.code(), answer.running),
+                Err(why) => write!(f, "{} {} 0 {}", call.code(), why.number(), answer.running),
+            },
+            Line::Bad { fault, running } => write!(f, "0 {} 0 {running}", fault.number()),
+        }
     }
 }
 
@@ -53,11 +40,14 @@ pub(crate) fn answer_lines(
 ) -> Result<Vec<Line>, AllocError>
     ensures { IfOk result (λ v. v.items ≡ map answer_line (zip calls.now answers.now)) }
 {
-    let mut lines = Vec::new(heap);
-    for (call, answer) in calls.iter().zip(answers) {
-        lines.push(line_of(*call, *answer))?;
-    }
-    Ok(lines)
+    calls
+        .iter()
+        .zip(answers)
+        .map(|(call, answer)| Line::Made {
+            call: *call,
+            answer: *answer,
+        })
+        .collect(heap)
 }
 
 // The lines, and one more where the script ends in a bad record.
@@ -68,13 +58,8 @@ pub(crate) fn with_last(
 ) -> Result<Vec<Line>, AllocError>
     ensures { IfOk result (λ v. v.items ≡ lines.items ++ last_line fault running) }
 {
-    if let Some(bad) = fault {
-        lines.push(Line {
-            code: 0,
-            refusal: bad.number(),
-            value: 0,
-            running,
-        })?;
+    if let Some(fault) = fault {
+        lines.push(Line::Bad { fault, running })?;
     }
     Ok(lines)
 }

@@ -1,64 +1,64 @@
 // Reads the records of a script. A record has 24 bytes: two mark bytes, a code, a spare byte, and five
 // words of 32 bits, low byte first, that are the call's arguments in order.
-ghost use Rattle.std.specs.Prelude.{◌≡◌, ◌+◌, ◌*◌, ◌≤◌, length};
-ghost use Rattle.player.specs.Decoded.{fault_number, word, sent, call_of, with_spare, decoded, read};
+ghost use Rattle.std.specs.Prelude.{◌≡◌};
+ghost use Rattle.player.specs.Decoded.{fault_number, words_of, call_of, with_spare, decoded, read};
 
 use kernel::calls::Call;
 
-// The question that a record fails, in the order in which they are asked.
-#[derive(Clone, Copy)]
+// The question that a record fails, in the order in which they are asked, with the number that a line gives it.
+#[derive(Clone, Copy, Debug, PartialEq, Eq)]
 pub enum BadRecord {
-    Short,
-    Mark,
-    Code,
-    Spare,
+    Short = 18,
+    Mark = 19,
+    Code = 20,
+    Spare = 21,
 }
 
 impl BadRecord {
     pub fn number(self) -> u32
         ensures { result ≡ fault_number self }
     {
-        match self {
-            BadRecord::Short => 18,
-            BadRecord::Mark => 19,
-            BadRecord::Code => 20,
-            BadRecord::Spare => 21,
-        }
+        self as u32
     }
 }
 
-fn word_at(words: &[u8], place: usize) -> u32
-    requires { 4 * place + 4 ≤ length words.now }
-    ensures { result ≡ word words.now place }
+// The five words of a record.
+fn words_in(bytes: &[u8; 20]) -> [u32; 5]
+    ensures { result ≡ words_of bytes.now }
 {
-    let at = 4 * place;
-    u32::from_le_bytes([words[at], words[at + 1], words[at + 2], words[at + 3]])
+    let ([first, second, third, fourth, fifth], _) = bytes.as_chunks::<4>() else {
+        unreachable!()
+    };
+    [
+        u32::from_le_bytes(*first),
+        u32::from_le_bytes(*second),
+        u32::from_le_bytes(*third),
+        u32::from_le_bytes(*fourth),
+        u32::from_le_bytes(*fifth),
+    ]
 }
 
-fn send(words: &[u8]) -> Call
-    requires { 20 ≤ length words.now }
-    ensures { result ≡ sent words.now }
-{
-    Call::Send {
-        address: word_at(words, 0).cast_signed(),
-        packet: word_at(words, 1),
-        kind: word_at(words, 2),
-        first: word_at(words, 3),
-        second: word_at(words, 4),
-    }
-}
-
-fn call_in(code: u8, spare: u8, words: &[u8]) -> Result<Call, BadRecord>
-    requires { 20 ≤ length words.now }
-    ensures { result ≡ with_spare spare (call_of code words.now) }
+// A code is a number of a byte with gaps, so it is decided here, and the spare byte is asked about only where the code has a call.
+fn call_in(code: u8, spare: u8, bytes: &[u8; 20]) -> Result<Call, BadRecord>
+    ensures { result ≡ with_spare spare (call_of code bytes.now) }
 {
     match code {
         8..=10 | 12 if spare != 0 => Err(BadRecord::Spare),
         8 => Ok(Call::Claim),
-        9 => Ok(Call::Drop {
-            packet: word_at(words, 0),
-        }),
-        10 => Ok(send(words)),
+        9 => {
+            let [packet, ..] = words_in(bytes);
+            Ok(Call::Drop { packet })
+        }
+        10 => {
+            let [address, packet, kind, first, second] = words_in(bytes);
+            Ok(Call::Send {
+                address: address.cast_signed(),
+                packet,
+                kind,
+                first,
+                second,
+            })
+        }
         12 => Ok(Call::Wait),
         _ => Err(BadRecord::Code),
     }
@@ -71,8 +71,8 @@ pub fn decode(bytes: &[u8]) -> Result<(Call, &[u8]), BadRecord>
     match bytes {
         _ if bytes.len() < 24 => Err(BadRecord::Short),
         [0x4B, 0x43, code, spare, rest @ ..] => {
-            let call = call_in(*code, *spare, rest)?;
-            Ok((call, &rest[20..]))
+            let (words, more) = rest.split_first_chunk::<20>().unwrap();
+            Ok((call_in(*code, *spare, words)?, more))
         }
         _ => Err(BadRecord::Mark),
     }

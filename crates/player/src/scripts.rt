@@ -7,12 +7,13 @@ use kernel::calls::Call;
 use std::alloc::{AllocError, Global};
 
 // The calls before the first bad record, or all of them, and what that record fails.
-#[derive(Drop)]
+#[derive(Debug, Drop)]
 pub struct Script {
     pub calls: Vec<Call>,
     pub fault: Option<BadRecord>,
 }
 
+// A record says where the next one begins, so this is a loop over what is left.
 pub fn parse(bytes: &[u8], heap: Global) -> Result<Script, AllocError>
     ensures { IfOk result (λ s. ◌≡◌ {A = Reading} (s.calls.items, s.fault) (parsed bytes.now)) }
 {

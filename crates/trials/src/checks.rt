@@ -2,7 +2,7 @@
 use crate::*;
 use calls::Call;
 use kernel::furnishing::open;
-use kernel::phases::{Furnishing, Started};
+use kernel::phases::{Furnishing, Kernel, Started};
 use std::process::Abort;
 
 // A row that no listing writes.
@@ -15,14 +15,14 @@ pub(crate) const MARK: Listed = Listed {
 };
 
 // Creates the tasks, and compares the number of each outcome.
-pub(crate) fn furnish(rt: &impl Abort, room: &mut Furnishing, creates: &[(u32, u32, u32)]) {
+pub(crate) fn furnish(rt: &impl Abort, room: &mut Kernel<Furnishing>, creates: &[(u32, u32, u32)]) {
     for &(task, priority, expected) in creates {
         assert_eq!(rt; outcome_number(room.create(task, priority)), expected);
     }
 }
 
 // A started kernel with task 6 of priority 20, which runs, and task 5 of priority 10.
-pub(crate) fn two_tasks() -> Started {
+pub(crate) fn two_tasks() -> Kernel<Started> {
     let mut room = open();
     let _ = room.create(5, 10);
     let _ = room.create(6, 20);
@@ -53,7 +53,13 @@ pub(crate) fn send(address: i32, packet: u32) -> Call {
 }
 
 // Claims packets of these numbers for the running task.
-pub(crate) fn claim(rt: &impl Abort, kernel: &mut Started, running: u8, first: u32, last: u32) {
+pub(crate) fn claim(
+    rt: &impl Abort,
+    kernel: &mut Kernel<Started>,
+    running: u8,
+    first: u32,
+    last: u32,
+) {
     for packet in first..=last {
         assert_eq!(rt;
             answer_numbers(kernel.call(Call::Claim)),
@@ -65,17 +71,17 @@ pub(crate) fn claim(rt: &impl Abort, kernel: &mut Started, running: u8, first: u
 // Compares the first rows; the others are as no listing writes them.
 pub(crate) fn rows_are(rt: &impl Abort, rows: &[Listed], expected: &[(u8, u16, u8, u32, u8)]) {
     for (i, &row) in rows.iter().enumerate() {
-        let wanted = if i < expected.len() {
-            expected[i]
-        } else {
-            row_numbers(MARK)
-        };
+        let wanted = expected.get(i).copied().unwrap_or(row_numbers(MARK));
         assert_eq!(rt; row_numbers(row), wanted);
     }
 }
 
 // Compares a listing in 32 rows.
-pub(crate) fn lists(rt: &impl Abort, kernel: &Started, expected: &[(u8, u16, u8, u32, u8)]) {
+pub(crate) fn lists(
+    rt: &impl Abort,
+    kernel: &Kernel<Started>,
+    expected: &[(u8, u16, u8, u32, u8)],
+) {
     let mut rows = [MARK; 32];
     let (refusal, count) = outcome_numbers(kernel.list(&mut rows));
     assert_eq!(rt; refusal, 0);
@@ -84,7 +90,11 @@ pub(crate) fn lists(rt: &impl Abort, kernel: &Started, expected: &[(u8, u16, u8,
 }
 
 // Makes each call, and compares the refusal, the value and the running task of its answer.
-pub(crate) fn play(rt: &impl Abort, kernel: &mut Started, steps: &[(Call, (u32, u32, u8))]) {
+pub(crate) fn play(
+    rt: &impl Abort,
+    kernel: &mut Kernel<Started>,
+    steps: &[(Call, (u32, u32, u8))],
+) {
     for &(call, expected) in steps {
         assert_eq!(rt; answer_numbers(kernel.call(call)), expected);
     }
@@ -93,7 +103,7 @@ pub(crate) fn play(rt: &impl Abort, kernel: &mut Started, steps: &[(Call, (u32, 
 // Plays, and then compares a listing.
 pub(crate) fn play_to(
     rt: &impl Abort,
-    kernel: &mut Started,
+    kernel: &mut Kernel<Started>,
     steps: &[(Call, (u32, u32, u8))],
     rows: &[(u8, u16, u8, u32, u8)],
 ) {
@@ -105,7 +115,7 @@ pub(crate) fn play_to(
 // compares a listing.
 pub(crate) fn ask(
     rt: &impl Abort,
-    kernel: &mut Started,
+    kernel: &mut Kernel<Started>,
     steps: &[(Call, u32)],
     rows: &[(u8, u16, u8, u32, u8)],
 ) {
@@ -118,7 +128,7 @@ pub(crate) fn ask(
 // Compares what is seen of each packet.
 pub(crate) fn looks(
     rt: &impl Abort,
-    kernel: &Started,
+    kernel: &Kernel<Started>,
     expected: &[(u32, ((u8, u8), i32, u32, u32, u32))],
 ) {
     for &(packet, seen) in expected {

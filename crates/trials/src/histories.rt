@@ -13,16 +13,16 @@ mod tests {
     // Compares the numbers of the replies to creates.
     fn replies_are(rt: &impl Abort, replies: &[Result<(), Refusal>], expected: &[u32]) {
         assert!(rt; replies.len() == expected.len());
-        for (i, &reply) in replies.iter().enumerate() {
-            assert_eq!(rt; outcome_number(reply), expected[i]);
+        for (&reply, &wanted) in replies.iter().zip(expected) {
+            assert_eq!(rt; outcome_number(reply), wanted);
         }
     }
 
     // Compares the numbers of the answers to calls.
     fn answers_are(rt: &impl Abort, answers: &[Answer], expected: &[(u32, u32, u8)]) {
         assert!(rt; answers.len() == expected.len());
-        for (i, &answer) in answers.iter().enumerate() {
-            assert_eq!(rt; answer_numbers(answer), expected[i]);
+        for (&answer, &wanted) in answers.iter().zip(expected) {
+            assert_eq!(rt; answer_numbers(answer), wanted);
         }
     }
 

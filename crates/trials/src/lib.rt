@@ -1,4 +1,4 @@
-// Trials of the kernel. Here are the numbers by which they compare what it answers.
+// Trials of the kernel. Here are the numbers by which they compare what it answers, so that what is expected are the numbers of the rules.
 #![tactic(auto)]
 
 ghost use Rattle.std.specs.Prelude.{◌≡◌};

@@ -6,11 +6,11 @@ mod tests {
     use crate::*;
     use calls::Call;
     use kernel::furnishing::open;
-    use kernel::phases::Started;
+    use kernel::phases::{Kernel, Started};
     use std::process::Abort;
 
     // A started kernel with the tasks from 1 on; task 1 has priority 99, and each other one less than the one before.
-    fn tasks_up_to(rt: &impl Abort, last: u32) -> Started {
+    fn tasks_up_to(rt: &impl Abort, last: u32) -> Kernel<Started> {
         let mut room = open();
         for task in 1..=last {
             let priority = 100u32.saturating_sub(task);
@@ -21,7 +21,7 @@ mod tests {
 
     // Task 1 sends a packet to each of 2 to 8 and waits. Each takes its packet: 2 to 5 wait again, 6 and 7 are held, and 8
     // sends its packet back to 1, which runs then.
-    fn wake_each(rt: &impl Abort, kernel: &mut Started) {
+    fn wake_each(rt: &impl Abort, kernel: &mut Kernel<Started>) {
         claim(rt, kernel, 1, 1, 7);
         play(
             rt,

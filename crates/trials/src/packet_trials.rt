@@ -5,13 +5,13 @@ mod tests {
     use crate::checks::*;
     use crate::*;
     use calls::Call;
-    use kernel::phases::Started;
+    use kernel::phases::{Kernel, Started};
     use std::process::Abort;
 
     // Makes the call, and compares what is then seen of packet 1.
     fn sees(
         rt: &impl Abort,
-        kernel: &mut Started,
+        kernel: &mut Kernel<Started>,
         call: Call,
         seen: ((u8, u8), i32, u32, u32, u32),
     ) {
