@@ -61,9 +61,9 @@ fn make_calls(
     Ok(gathered)
 }
 
-// Makes the calls in order and keeps their answers. Where memory is wanting, no call was made. The loop stands in a function of its
-// own: its proof file would hide a change of this one.
-pub fn run(
+// Makes the calls in order on a started kernel, whatever it did before, and keeps their answers. Where memory is wanting, no call was
+// made. The loop stands in a function of its own: its proof file would hide a change of this one.
+pub fn call_all(
     kernel: &mut Kernel<Started>,
     calls: &[Call],
     heap: Global,
@@ -91,7 +91,7 @@ fn from_start(
     ensures law { IfOk result (λ h. Law creates.now h.replies.items calls.now h.answers.items (state h.kernel)) }
 {
     let mut kernel = room.start();
-    let answers = run(&mut kernel, calls, heap)?;
+    let answers = call_all(&mut kernel, calls, heap)?;
     Ok(History {
         kernel,
         replies: given,
@@ -100,11 +100,7 @@ fn from_start(
 }
 
 // Opens a kernel, makes the creates, starts it, and makes the calls. Want of memory is an error that loses nothing of the caller's.
-pub fn run_from_opening(
-    creates: &[Creation],
-    calls: &[Call],
-    heap: Global,
-) -> Result<History, AllocError>
+pub fn run(creates: &[Creation], calls: &[Call], heap: Global) -> Result<History, AllocError>
     ensures replied { IfOk result (λ h. h.replies.items ≡ replies fresh creates.now) }
     ensures answered { IfOk result (λ h. h.answers.items ≡ answers (start (furnish fresh creates.now)) calls.now) }
     ensures left { IfOk result (λ h. state h.kernel ≡ after (start (furnish fresh creates.now)) calls.now) }

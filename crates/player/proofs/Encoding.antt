@@ -16,13 +16,20 @@ long : (code a b c d e : ℕ) (rest : List ℕ) → ltb (length (record_of code 
 long code a b c d e rest = le-ltb (length (record_of code a b c d e ++ rest)) 24 (omega arith)
 
 one_back : (call : Call) (rest : List ℕ) → Fitting call → decoded (encoded call ++ rest) ≡ Ok (call, rest)
-one_back (Create task priority) rest h = absurd h
-one_back (Delete task) rest h = absurd h
-one_back (ChangePriority task priority) rest h = absurd h
-one_back (Hold task) rest h = absurd h
-one_back (Release task) rest h = absurd h
-one_back (SetFlags task bits) rest h = absurd h
-one_back (TestFlags bits) rest h = absurd h
+one_back (Create task priority) rest h =
+    cond-false _ _ _ (long 1 task priority 0 0 0 rest) ∙ (λ j. Ok (Create (from_le_bytes-to_le_bytes_4 task h.0 j) (from_le_bytes-to_le_bytes_4 priority h.1 j), rest))
+one_back (Delete task) rest h =
+    cond-false _ _ _ (long 2 task 0 0 0 0 rest) ∙ (λ j. Ok (Delete (from_le_bytes-to_le_bytes_4 task h j), rest))
+one_back (ChangePriority task priority) rest h =
+    cond-false _ _ _ (long 3 task priority 0 0 0 rest) ∙ (λ j. Ok (ChangePriority (from_le_bytes-to_le_bytes_4 task h.0 j) (from_le_bytes-to_le_bytes_4 priority h.1 j), rest))
+one_back (Hold task) rest h =
+    cond-false _ _ _ (long 4 task 0 0 0 0 rest) ∙ (λ j. Ok (Hold (from_le_bytes-to_le_bytes_4 task h j), rest))
+one_back (Release task) rest h =
+    cond-false _ _ _ (long 5 task 0 0 0 0 rest) ∙ (λ j. Ok (Release (from_le_bytes-to_le_bytes_4 task h j), rest))
+one_back (SetFlags task bits) rest h =
+    cond-false _ _ _ (long 6 task bits 0 0 0 rest) ∙ (λ j. Ok (SetFlags (from_le_bytes-to_le_bytes_4 task h.0 j) (from_le_bytes-to_le_bytes_4 bits h.1 j), rest))
+one_back (TestFlags bits) rest h =
+    cond-false _ _ _ (long 7 bits 0 0 0 0 rest) ∙ (λ j. Ok (TestFlags (from_le_bytes-to_le_bytes_4 bits h j), rest))
 one_back Claim rest h = cond-false _ _ _ (long 8 0 0 0 0 0 rest)
 one_back (Drop packet) rest h =
     cond-false _ _ _ (long 9 packet 0 0 0 0 rest) ∙ (λ j. Ok (Drop (from_le_bytes-to_le_bytes_4 packet h j), rest))

@@ -4,7 +4,7 @@ use Rattle.std.specs.Int.{w32}
 use Rattle.std.proofs.Common.{to_z}
 use Rattle.std.specs.Borrow.{Bor}
 use Rattle.calls.specs.declared.Call.{Call}
-use Rattle.calls.specs.declared.Call.TheVariants.{Claim, Drop, Send, Wait}
+use Rattle.calls.specs.declared.Call.TheVariants.{Create, Delete, ChangePriority, Hold, Release, SetFlags, TestFlags, Claim, Drop, Send, Wait}
 use Rattle.player.specs.declared.records.BadRecord.{BadRecord}
 use Rattle.player.specs.declared.records.BadRecord.TheVariants.{Short, Mark, Code, Spare}
 
@@ -31,10 +31,17 @@ sent words = Send (to_z w32 (word words 0)) (word words 1) (word words 2) (word 
 -- the call of a code, where the kernel has one
 abbrev pub call_of : ℕ → List ℕ → Option Call
 call_of code words =
-    cond (code == 8) (Some Claim)
+    cond (code == 1) (Some (Create (word words 0) (word words 1)))
+    (cond (code == 2) (Some (Delete (word words 0)))
+    (cond (code == 3) (Some (ChangePriority (word words 0) (word words 1)))
+    (cond (code == 4) (Some (Hold (word words 0)))
+    (cond (code == 5) (Some (Release (word words 0)))
+    (cond (code == 6) (Some (SetFlags (word words 0) (word words 1)))
+    (cond (code == 7) (Some (TestFlags (word words 0)))
+    (cond (code == 8) (Some Claim)
     (cond (code == 9) (Some (Drop (word words 0)))
     (cond (code == 10) (Some (sent words))
-    (cond (code == 12) (Some Wait) None)))
+    (cond (code == 12) (Some Wait) None))))))))))
 
 -- the spare byte is asked about only where the code has a call
 abbrev pub with_spare : ℕ → Option Call → Result Call BadRecord

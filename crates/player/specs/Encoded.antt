@@ -31,15 +31,15 @@ encoded (Drop packet) = record_of 9 packet 0 0 0 0
 encoded (Send address packet kind first second) = record_of 10 (of_z w32 address) packet kind first second
 encoded Wait = record_of 12 0 0 0 0 0
 
--- the numbers of a call that a program can hold fit 32 bits; a record that changes tasks or flags is not read as a call yet
+-- the numbers of a call that a program can hold fit 32 bits
 abbrev pub Fitting : Call → Type 0
-Fitting (Create task priority) = ⊥
-Fitting (Delete task) = ⊥
-Fitting (ChangePriority task priority) = ⊥
-Fitting (Hold task) = ⊥
-Fitting (Release task) = ⊥
-Fitting (SetFlags task bits) = ⊥
-Fitting (TestFlags bits) = ⊥
+Fitting (Create task priority) = (task < 2 ^ 32) × (priority < 2 ^ 32)
+Fitting (Delete task) = task < 2 ^ 32
+Fitting (ChangePriority task priority) = (task < 2 ^ 32) × (priority < 2 ^ 32)
+Fitting (Hold task) = task < 2 ^ 32
+Fitting (Release task) = task < 2 ^ 32
+Fitting (SetFlags task bits) = (task < 2 ^ 32) × (bits < 2 ^ 32)
+Fitting (TestFlags bits) = bits < 2 ^ 32
 Fitting Claim = Unit {0}
 Fitting (Drop packet) = packet < 2 ^ 32
 Fitting (Send address packet kind first second) = FitsSigned w32 address × (packet < 2 ^ 32) × (kind < 2 ^ 32) × (first < 2 ^ 32) × (second < 2 ^ 32)

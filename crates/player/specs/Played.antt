@@ -6,16 +6,20 @@ use Rattle.calls.specs.declared.Call.{Call}
 use Rattle.tables.specs.State.{State}
 use Rattle.tables.specs.Running.{running}
 use Rattle.tables.specs.Moves.{fresh}
-use Rattle.calls.specs.Steps.{create, start}
-use Rattle.history.specs.History.{answers, after}
+use Rattle.calls.specs.Steps.{start}
+use Rattle.history.specs.declared.creations.Creation.{Creation}
+use Rattle.history.specs.History.{furnish, answers, after}
 use Rattle.player.specs.declared.lines.Line.{Line}
 use Rattle.player.specs.declared.lines.Line.TheVariants.{Made, Bad}
 use Rattle.player.specs.declared.records.BadRecord.{BadRecord}
 use Rattle.player.specs.Parsed.{Reading, parsed}
 
 -- task 1 at priority 100 and task 2 at priority 200
+abbrev pub creates : List Creation
+creates = record { task = 1; priority = 100 } ∷ record { task = 2; priority = 200 } ∷ []
+
 unfoldable pub opening : State
-opening = start (create (create fresh 1 100).0 2 200).0
+opening = start (furnish fresh creates)
 
 abbrev pub answer_line : Call × Answer → Line
 answer_line pair = Made pair.0 pair.1

@@ -3,7 +3,8 @@ use Rattle.std.specs.Prelude.{◌≡◌, ℕ, List, [], ◌∷◌, ◌++◌, pos
 use Rattle.std.specs.List.{flat_map}
 use Rattle.tables.specs.Moves.{fresh}
 use Rattle.calls.specs.declared.Call.TheVariants.{Claim, Send, Wait}
-use Rattle.calls.specs.Steps.{create}
+use Rattle.history.specs.History.{replies}
+use Rattle.player.specs.Played.{creates}
 use Rattle.player.specs.Encoded.{marked, record_of, encoded}
 use Rattle.player.specs.Printed.{text}
 
@@ -13,8 +14,7 @@ session = flat_map encoded (Claim ∷ Send (pos 1) 1 7 0 0 ∷ Wait ∷ Claim �
 
 -- Both tasks are created, and the session prints its seven lines.
 pub record Sample : Type 0 where
-  pub first_create : (create fresh 1 100).1 ≡ Ok tt
-  pub second_create : (create (create fresh 1 100).0 2 200).1 ≡ Ok tt
+  pub created : replies fresh creates ≡ Ok tt ∷ Ok tt ∷ []
   pub prints : text session ≡ codes "8 0 1 2\n10 0 0 2\n12 0 0 1\n8 2 0 1\n12 0 1 1\n10 0 0 2\n12 0 1 2\n"
 
 -- a claim, and then a record that is cut short, has another mark, has a code of no call, or whose spare byte is not 0

@@ -3,6 +3,7 @@
 
 ghost use Rattle.std.specs.Prelude.{◌≡◌, IfOk, string_bytes};
 ghost use Rattle.kernel.specs.View.{state};
+ghost use Rattle.history.specs.History.{answers, after};
 ghost use Rattle.player.specs.Encoded.{ReadsBack};
 ghost use Rattle.player.specs.Played.{opening, played};
 ghost use Rattle.player.specs.Printed.{text};
@@ -12,21 +13,30 @@ pub mod lines;
 pub mod records;
 pub mod scripts;
 
-use kernel::furnishing::open;
-use kernel::phases::{Kernel, Started};
+use history::History;
+use history::creations::Creation;
+use kernel::calls::Call;
 use lines::{Line, answer_lines, with_last};
 use scripts::parse;
 use std::alloc::{AllocError, Global};
 
-// Neither create is refused: `sample_session_prints` computes that.
+// Task 1 at priority 100 and task 2 at priority 200, and then the calls. Neither create is refused: `sample_session_prints` computes that.
 #[tactic(auto, unfolding(crate::specs::Played::opening))]
-fn furnish() -> Kernel<Started>
-    ensures { state result ≡ opening }
+fn session(calls: &[Call], heap: Global) -> Result<History, AllocError>
+    ensures answered { IfOk result (λ h. h.answers.items ≡ answers opening calls.now) }
+    ensures left { IfOk result (λ h. state h.kernel ≡ after opening calls.now) }
 {
-    let mut room = open();
-    let _ = room.create(1, 100);
-    let _ = room.create(2, 200);
-    room.start()
+    let creates = [
+        Creation {
+            task: 1,
+            priority: 100,
+        },
+        Creation {
+            task: 2,
+            priority: 200,
+        },
+    ];
+    history::run(&creates, calls, heap)
 }
 
 // A line for each call of the script, and a last one for a bad record.
@@ -34,10 +44,9 @@ pub fn play(bytes: &[u8], heap: Global) -> Result<Vec<Line>, AllocError>
     ensures { IfOk result (λ v. v.items ≡ played bytes.now) }
 {
     let script = parse(bytes, heap)?;
-    let mut kernel = furnish();
-    let answers = history::run(&mut kernel, &script.calls, heap)?;
-    let lines = answer_lines(&script.calls, &answers, heap)?;
-    with_last(lines, script.fault, kernel.running())
+    let history = session(&script.calls, heap)?;
+    let lines = answer_lines(&script.calls, &history.answers, heap)?;
+    with_last(lines, script.fault, history.kernel.running())
 }
 
 // The lines as text.
@@ -52,7 +61,7 @@ pub fn printed(bytes: &[u8], heap: Global) -> Result<String, AllocError>
     Ok(page)
 }
 
-// A script of claims, drops, sends and waits is read as those calls.
+// A script that was written from calls is read as those calls.
 pub fn scripts_read_back() -> u8
     ensures { ReadsBack }
 {

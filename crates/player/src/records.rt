@@ -42,23 +42,34 @@ fn words_in(bytes: &[u8; 20]) -> [u32; 5]
 fn call_in(code: u8, spare: u8, bytes: &[u8; 20]) -> Result<Call, BadRecord>
     ensures { result ≡ with_spare spare (call_of code bytes.now) }
 {
+    let [first, second, third, fourth, fifth] = words_in(bytes);
     match code {
-        8..=10 | 12 if spare != 0 => Err(BadRecord::Spare),
+        1..=10 | 12 if spare != 0 => Err(BadRecord::Spare),
+        1 => Ok(Call::Create {
+            task: first,
+            priority: second,
+        }),
+        2 => Ok(Call::Delete { task: first }),
+        3 => Ok(Call::ChangePriority {
+            task: first,
+            priority: second,
+        }),
+        4 => Ok(Call::Hold { task: first }),
+        5 => Ok(Call::Release { task: first }),
+        6 => Ok(Call::SetFlags {
+            task: first,
+            bits: second,
+        }),
+        7 => Ok(Call::TestFlags { bits: first }),
         8 => Ok(Call::Claim),
-        9 => {
-            let [packet, ..] = words_in(bytes);
-            Ok(Call::Drop { packet })
-        }
-        10 => {
-            let [address, packet, kind, first, second] = words_in(bytes);
-            Ok(Call::Send {
-                address: address.cast_signed(),
-                packet,
-                kind,
-                first,
-                second,
-            })
-        }
+        9 => Ok(Call::Drop { packet: first }),
+        10 => Ok(Call::Send {
+            address: first.cast_signed(),
+            packet: second,
+            kind: third,
+            first: fourth,
+            second: fifth,
+        }),
         12 => Ok(Call::Wait),
         _ => Err(BadRecord::Code),
     }

@@ -6,7 +6,7 @@ mod tests {
     use crate::*;
     use calls::Call;
     use history::creations::Creation;
-    use history::{History, run_from_opening};
+    use history::{History, run};
     use std::process::Abort;
     use std::test::Fail;
 
@@ -54,7 +54,7 @@ mod tests {
             creation(6, 20),
         ];
         let calls = [Call::Claim, send(5, 1), Call::Wait, Call::Wait, send(7, 1)];
-        let history = run_from_opening(&creates, &calls, rt.alloc())?;
+        let history = run(&creates, &calls, rt.alloc())?;
         leaves(
             &rt,
             &history,
@@ -68,7 +68,7 @@ mod tests {
 
     #[test]
     fn without_creates_every_call_is_refused(rt: HostRuntime) -> Result<(), Fail> {
-        let history = run_from_opening(&[], &[create(1, 1), Call::Wait], rt.alloc())?;
+        let history = run(&[], &[create(1, 1), Call::Wait], rt.alloc())?;
         leaves(&rt, &history, &[], &[(1, 0, 0), (1, 0, 0)], 0);
         Ok(())
     }

@@ -6,4 +6,4 @@ use Rattle.player.proofs.sample_session_prints.Goals as goal
 
 pub returns : goal.returns
 unfolding parsed_within opening digits
-returns c = record { first_create = refl; second_create = refl; prints = refl }
+returns c = record { created = refl; prints = refl }
