@@ -5,6 +5,7 @@ ghost use Rattle.std.specs.Prelude.{◌≡◌, IfOk, string_bytes};
 ghost use Rattle.kernel.specs.View.{state};
 ghost use Rattle.history.specs.History.{answers, after};
 ghost use Rattle.player.specs.Encoded.{ReadsBack};
+ghost use Rattle.player.specs.Parsed.{parsed};
 ghost use Rattle.player.specs.Played.{opening, played};
 ghost use Rattle.player.specs.Printed.{text};
 ghost use Rattle.player.specs.Sample.{Sample, BadRecords};
@@ -16,6 +17,7 @@ pub mod scripts;
 use history::History;
 use history::creations::Creation;
 use kernel::calls::Call;
+use kernel::phases::{Kernel, Started};
 use lines::{Line, answer_lines, with_last};
 use scripts::parse;
 use std::alloc::{AllocError, Global};
@@ -47,6 +49,15 @@ pub fn play(bytes: &[u8], heap: Global) -> Result<Vec<Line>, AllocError>
     let history = session(&script.calls, heap)?;
     let lines = answer_lines(&script.calls, &history.answers, heap)?;
     with_last(lines, script.fault, history.kernel.running())
+}
+
+// The kernel that a script leaves: a bad record makes no call.
+pub fn kernel_after(bytes: &[u8], heap: Global) -> Result<Kernel<Started>, AllocError>
+    ensures { IfOk result (λ k. state k ≡ after opening (parsed bytes.now).0) }
+{
+    let script = parse(bytes, heap)?;
+    let history = session(&script.calls, heap)?;
+    Ok(history.kernel)
 }
 
 // The lines as text.
