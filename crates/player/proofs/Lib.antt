@@ -1,3 +1,4 @@
 pub mod Decoding
 pub mod Parsing
 pub mod Encoding
+pub mod Sessions

@@ -8,7 +8,8 @@ use Rattle.tables.specs.Running.{running}
 use Rattle.tables.specs.Moves.{fresh}
 use Rattle.calls.specs.Steps.{start}
 use Rattle.history.specs.declared.creations.Creation.{Creation}
-use Rattle.history.specs.History.{furnish, answers, after}
+use Rattle.history.specs.History.{replies, furnish, answers, after}
+use Rattle.history.specs.Law.{Law}
 use Rattle.player.specs.declared.lines.Line.{Line}
 use Rattle.player.specs.declared.lines.Line.TheVariants.{Made, Bad}
 use Rattle.player.specs.declared.records.BadRecord.{BadRecord}
@@ -20,6 +21,10 @@ creates = record { task = 1; priority = 100 } ∷ record { task = 2; priority = 
 
 unfoldable pub opening : State
 opening = start (furnish fresh creates)
+
+-- the law over histories, of the history that these calls make
+abbrev pub Lawfully : List Call → Type 0
+Lawfully calls = Law creates (replies fresh creates) calls (answers opening calls) (after opening calls)
 
 abbrev pub answer_line : Call × Answer → Line
 answer_line pair = Made pair.0 pair.1

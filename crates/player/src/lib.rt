@@ -1,12 +1,12 @@
 // Plays scripts of calls: the bytes of a script go in, a line of text for each record comes out.
 #![tactic(auto)]
 
-ghost use Rattle.std.specs.Prelude.{◌≡◌, IfOk, string_bytes};
+ghost use Rattle.std.specs.Prelude.{◌≡◌, IfOk, OnOk, string_bytes};
 ghost use Rattle.kernel.specs.View.{state};
 ghost use Rattle.history.specs.History.{answers, after};
 ghost use Rattle.player.specs.Encoded.{ReadsBack};
 ghost use Rattle.player.specs.Parsed.{parsed};
-ghost use Rattle.player.specs.Played.{opening, played};
+ghost use Rattle.player.specs.Played.{opening, Lawfully, played};
 ghost use Rattle.player.specs.Printed.{text};
 ghost use Rattle.player.specs.Sample.{Sample, BadRecords};
 
@@ -23,10 +23,11 @@ use scripts::parse;
 use std::alloc::{AllocError, Global};
 
 // Task 1 at priority 100 and task 2 at priority 200, and then the calls. Neither create is refused: `sample_session_prints` computes that.
-#[tactic(auto, unfolding(crate::specs::Played::opening))]
+#[tactic(auto, unfolding(crate::specs::Played::opening), using(crate::proofs::Sessions::lawfully))]
 fn session(calls: &[Call], heap: Global) -> Result<History, AllocError>
     ensures answered { IfOk result (λ h. h.answers.items ≡ answers opening calls.now) }
     ensures left { IfOk result (λ h. state h.kernel ≡ after opening calls.now) }
+    ensures law { OnOk result (Lawfully calls.now) }
 {
     let creates = [
         Creation {
@@ -43,7 +44,8 @@ fn session(calls: &[Call], heap: Global) -> Result<History, AllocError>
 
 // A line for each call of the script, and a last one for a bad record.
 pub fn play(bytes: &[u8], heap: Global) -> Result<Vec<Line>, AllocError>
-    ensures { IfOk result (λ v. v.items ≡ played bytes.now) }
+    ensures lines { IfOk result (λ v. v.items ≡ played bytes.now) }
+    ensures law { OnOk result (Lawfully (parsed bytes.now).0) }
 {
     let script = parse(bytes, heap)?;
     let history = session(&script.calls, heap)?;
@@ -53,7 +55,8 @@ pub fn play(bytes: &[u8], heap: Global) -> Result<Vec<Line>, AllocError>
 
 // The kernel that a script leaves: a bad record makes no call.
 pub fn kernel_after(bytes: &[u8], heap: Global) -> Result<Kernel<Started>, AllocError>
-    ensures { IfOk result (λ k. state k ≡ after opening (parsed bytes.now).0) }
+    ensures left { IfOk result (λ k. state k ≡ after opening (parsed bytes.now).0) }
+    ensures law { OnOk result (Lawfully (parsed bytes.now).0) }
 {
     let script = parse(bytes, heap)?;
     let history = session(&script.calls, heap)?;
@@ -62,7 +65,8 @@ pub fn kernel_after(bytes: &[u8], heap: Global) -> Result<Kernel<Started>, Alloc
 
 // The lines as text.
 pub fn printed(bytes: &[u8], heap: Global) -> Result<String, AllocError>
-    ensures { IfOk result (λ s. string_bytes s ≡ text bytes.now) }
+    ensures text { IfOk result (λ s. string_bytes s ≡ text bytes.now) }
+    ensures law { OnOk result (Lawfully (parsed bytes.now).0) }
 {
     let lines = play(bytes, heap)?;
     let mut page = String::new(heap);
