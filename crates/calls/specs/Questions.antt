@@ -1,4 +1,4 @@
--- The questions that calls ask before they do anything, and when the answer is yes.
+-- The questions that calls ask before they do anything, each by what has to be so for a yes.
 use Rattle.std.specs.Prelude.{ℕ, suc, Bool, true, false, cond, not, ◌&&◌, ◌||◌, List, [], ◌∷◌, ℤ, pos, negsuc, Some, None, Option, ◌==◌, nat_le}
 use Rattle.packets.specs.declared.rows.Place.{Place}
 use Rattle.packets.specs.declared.rows.Place.TheVariants.{Free, Hands, Queue}
@@ -14,35 +14,35 @@ use Rattle.calls.specs.declared.Refusal.{Refusal}
 use Rattle.calls.specs.declared.Refusal.TheVariants.{NoTaskRunning, RunnerNotReady, NoSuchTask, NoSuchUnit, NoSuchPacket, NotInHands, BadPriority, PriorityTaken, TaskInUse, NoPacketFree, AlreadyHeld, NotHeld, TaskNotIdle, PacketsOut}
 
 pub data Question : Type 0 where
-  -- is a task running?
+  -- some task runs
   task_runs : Question
-  -- is the running task ready?
+  -- the task that runs is ready
   runner_ready : Question
-  -- is the task number between 1 and 32?
+  -- the number is one of 1 to 32
   task_number : ℕ → Question
-  -- is the task number between 1 and 32 and in use?
+  -- it is one of these, and a task has it
   task_known : ℕ → Question
-  -- is the unit between 1 and the number of units?
+  -- there is a unit of that number
   unit_known : ℕ → Question
-  -- is the packet number between 1 and 64?
+  -- the number is one of 1 to 64
   packet_known : ℕ → Question
-  -- is the packet in the running task's hands?
+  -- the task that runs has the packet in its hands
   packet_in_hands : ℕ → Question
-  -- is the priority between 1 and 65,535?
+  -- the priority is one of 1 to 65,535
   priority_known : ℕ → Question
-  -- does no other task have that priority?
+  -- all other tasks have other priorities
   priority_alone : ℕ → ℕ → Question
-  -- is the task number unused?
+  -- no task has the number
   number_unused : ℕ → Question
-  -- is a packet free?
+  -- at least one packet is free
   packet_free : Question
-  -- is the task not held?
+  -- the task is not marked as held
   task_not_held : ℕ → Question
-  -- is the task held?
+  -- the task is marked as held
   task_held : ℕ → Question
-  -- is the task running or dormant?
+  -- the task is the one that runs, or is dormant
   task_idle : ℕ → Question
-  -- is no packet in its hands, on its queue or bearing it as sender?
+  -- the task has no packet, neither in its hands nor queued, and is the sender of none
   packets_home : ℕ → Question
 
 -- How many units the kernel has: none yet.

@@ -102,6 +102,6 @@ create_decided s None s' = (s', Ok tt)
 abbrev pub create : State → ℕ → ℕ → State × Result (Unit {0}) Refusal
 create s t p = create_decided s (first_no s (create_asks t p)) (add_task s t p)
 
--- Starting makes the task of greatest priority ready, if there is one.
+-- At the start one task is made ready: of all there are, the one of greatest priority.
 abbrev pub start : State → State
 start s = set_condition s (first s.order) Condition.Ready

@@ -46,7 +46,7 @@ fn in_hands(tables: &Tables, n: PacketNumber) -> bool
     tables.packet(n.get()).place == Place::Hands(tables.running())
 }
 
-// The task, if its number is between 1 and 32 and in use: question 3.
+// The task of that number, if there is one: question 3.
 fn task_in_use(tables: &Tables, task: u32) -> Result<TaskNumber, Refusal>
     ensures asked { result_err result ≡ first_no (view tables.now) (task_known task ∷ []) }
     ensures is { IfOk result (λ t. t ≡ task) }
@@ -59,7 +59,7 @@ fn task_in_use(tables: &Tables, task: u32) -> Result<TaskNumber, Refusal>
     Ok(t)
 }
 
-// Is the task number between 1 and 32 and in use?
+// Does a task have that number?
 pub fn task_known(tables: &Tables, t: u32) -> bool
     ensures { result ≡ yes (view tables.now) (task_known t) }
 {

@@ -3,7 +3,7 @@ ghost use Rattle.std.specs.Prelude.{◌≡◌, ℕ};
 ghost use Rattle.chain.specs.Ranks.{rank_or_none};
 ghost use Rattle.std.proofs.Common.{rules};
 
-// A row that tells and sets its link.
+// A row that says which row it names, and can be told another.
 pub trait Link {
     ghost link: { Self → ℕ };
 

@@ -104,7 +104,7 @@ abbrev pub enter_send : Journal → ℕ → ℤ → ℕ → Journal
 enter_send j r (pos t) n = deliver (move j n (Queue t) (pos r)) t n
 enter_send j r (negsuc u) n = j
 
--- A wait of value 0 makes the running task waiting; of another value it puts that packet in the task's hands, and the task is ready.
+-- A wait of value 0 found no packet: the running task waits. Any other value is the packet that it took into its hands; it is ready.
 abbrev pub enter_wait : Journal → ℕ → ℕ → Journal
 enter_wait j r zero = change_task j r (in_condition Condition.Waiting)
 enter_wait j r (suc k) =
@@ -140,7 +140,7 @@ abbrev pub furnished : Journal → List (ℕ × ℕ) → Journal
 furnished j [] = j
 furnished j (c ∷ cs) = furnished (note_task j c.0 (Some (new_task c.1))) cs
 
--- Starting makes the task of greatest priority ready, if there is one.
+-- At the start one task is noted as ready: of all that are noted, the one of greatest priority.
 abbrev pub started : Journal → Journal
 started j = change_task j (greatest (λ t. is_some (j.tasks t)) (λ t. rank (j.tasks t)) 32) (in_condition Condition.Ready)
 

@@ -29,7 +29,7 @@ impl Kernel<Furnishing> {
         Ok(())
     }
 
-    // Makes the task of greatest priority ready, if there is one, and takes calls from then on.
+    // Of all tasks, if there are any, the one of greatest priority becomes ready. Calls are taken from then on.
     pub fn start(self) -> Kernel<Started>
         ensures { state result ≡ started (state self) }
     {

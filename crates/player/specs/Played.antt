@@ -22,9 +22,9 @@ creates = record { task = 1; priority = 100 } ∷ record { task = 2; priority = 
 unfoldable pub opening : State
 opening = start (furnish fresh creates)
 
--- the law over histories, of the history that these calls make
-abbrev pub Lawfully : List Call → Type 0
-Lawfully calls = Law creates (replies fresh creates) calls (answers opening calls) (after opening calls)
+-- the law over histories, of the history that these calls make and the state that they leave
+abbrev pub Lawfully : List Call → State → Type 0
+Lawfully calls left = Law creates (replies fresh creates) calls (answers opening calls) left
 
 abbrev pub answer_line : Call × Answer → Line
 answer_line pair = Made pair.0 pair.1

@@ -27,7 +27,7 @@ use std::alloc::{AllocError, Global};
 fn session(calls: &[Call], heap: Global) -> Result<History, AllocError>
     ensures answered { IfOk result (λ h. h.answers.items ≡ answers opening calls.now) }
     ensures left { IfOk result (λ h. state h.kernel ≡ after opening calls.now) }
-    ensures law { OnOk result (Lawfully calls.now) }
+    ensures law { IfOk result (λ h. Lawfully calls.now (state h.kernel)) }
 {
     let creates = [
         Creation {
@@ -45,7 +45,7 @@ fn session(calls: &[Call], heap: Global) -> Result<History, AllocError>
 // A line for each call of the script, and a last one for a bad record.
 pub fn play(bytes: &[u8], heap: Global) -> Result<Vec<Line>, AllocError>
     ensures lines { IfOk result (λ v. v.items ≡ played bytes.now) }
-    ensures law { OnOk result (Lawfully (parsed bytes.now).0) }
+    ensures law { OnOk result (Lawfully (parsed bytes.now).0 (after opening (parsed bytes.now).0)) }
 {
     let script = parse(bytes, heap)?;
     let history = session(&script.calls, heap)?;
@@ -56,7 +56,7 @@ pub fn play(bytes: &[u8], heap: Global) -> Result<Vec<Line>, AllocError>
 // The kernel that a script leaves: a bad record makes no call.
 pub fn kernel_after(bytes: &[u8], heap: Global) -> Result<Kernel<Started>, AllocError>
     ensures left { IfOk result (λ k. state k ≡ after opening (parsed bytes.now).0) }
-    ensures law { OnOk result (Lawfully (parsed bytes.now).0) }
+    ensures law { IfOk result (λ k. Lawfully (parsed bytes.now).0 (state k)) }
 {
     let script = parse(bytes, heap)?;
     let history = session(&script.calls, heap)?;
@@ -66,7 +66,7 @@ pub fn kernel_after(bytes: &[u8], heap: Global) -> Result<Kernel<Started>, Alloc
 // The lines as text.
 pub fn printed(bytes: &[u8], heap: Global) -> Result<String, AllocError>
     ensures text { IfOk result (λ s. string_bytes s ≡ text bytes.now) }
-    ensures law { OnOk result (Lawfully (parsed bytes.now).0) }
+    ensures law { OnOk result (Lawfully (parsed bytes.now).0 (after opening (parsed bytes.now).0)) }
 {
     let lines = play(bytes, heap)?;
     let mut page = String::new(heap);

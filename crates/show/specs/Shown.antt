@@ -44,9 +44,10 @@ unfoldable pub packet_lines : State → ℕ → List ℕ
 packet_lines s zero = []
 packet_lines s (suc n) = packet_lines s n ++ packet_line s (suc n)
 
--- the page of a kernel in state s, whose listing was lent those rows
+-- how the tasks of state s are listed into rows that are lent
 abbrev pub listing_text : State → List Listed → List ℕ
 listing_text s lent = listing_lines (list_answer s lent) (list_rows s)
 
+-- the page of a kernel in state s, whose tasks are listed into such rows
 abbrev pub page_text : State → List Listed → List ℕ
 page_text s lent = listing_text s lent ++ packet_lines s 64

@@ -12,7 +12,7 @@ is_ready Dormant = false
 is_ready Ready = true
 is_ready Waiting = false
 
--- A task may run if it is not held, and is ready or has a packet queued.
+-- A held task may not run; of the others those may that are ready, or for which a packet is queued.
 abbrev pub may_run : Option Task → Bool → Bool
 may_run None queued = false
 may_run (Some x) queued = not x.held && (is_ready x.condition || queued)

@@ -2,7 +2,7 @@ use Rattle.std.proofs.Common.{◌≡◌, ◌+◌, ◌-◌, ◌++◌, string_byte
 use Rattle.kernel.specs.View.{state}
 use Rattle.show.specs.Shown.{packet_line, packet_lines}
 use Rattle.show.proofs.Counted.{one_more}
-use Rattle.show.proofs.page.add_packets.Goals as goal
+use Rattle.show.proofs.pages.add_packets.Goals as goal
 
 pub loop-n-preserved : goal.loop-n-preserved
 loop-n-preserved c =

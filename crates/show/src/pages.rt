@@ -1,12 +1,17 @@
-// The page that shows what a script leaves.
+// Pages that show what scripts leave.
 ghost use Rattle.std.specs.Prelude.{◌≡◌, ◌++◌, Ok as Fine, IfOk, OnOk, string_bytes};
 ghost use Rattle.std.specs.List.{flat_map};
+ghost use Rattle.listing.specs.Listed.{listed};
 ghost use Rattle.kernel.specs.View.{state};
+ghost use Rattle.history.specs.History.{after};
+ghost use Rattle.player.specs.Parsed.{parsed};
+ghost use Rattle.player.specs.Played.{opening, Lawfully};
 ghost use Rattle.show.specs.Shown.{row_line, line_at, packet_lines, listing_lines, listing_text, page_text};
 
 use kernel::phases::{Kernel, Started};
 use listing::Listed;
 use packets::rows::{Packet, Place};
+use player::kernel_after;
 use std::alloc::{AllocError, Global};
 
 // Adds a line for each row of a listing.
@@ -77,7 +82,8 @@ fn add_listing(
     kernel: &Kernel<Started>,
     rows: &mut [Listed],
 ) -> Result<(), AllocError>
-    ensures { OnOk result (string_bytes page.new ≡ string_bytes page.old ++ listing_text (state kernel.now) rows.old) }
+    ensures text { OnOk result (string_bytes page.new ≡ string_bytes page.old ++ listing_text (state kernel.now) rows.old) }
+    ensures rows { rows.new ≡ listed (state kernel.now) rows.old }
 {
     match kernel.list(rows) {
         Ok(count) => add_listed(page, count, &rows[..count as usize]),
@@ -85,16 +91,27 @@ fn add_listing(
     }
 }
 
-// The listing of the tasks in these rows, and the packets.
-pub fn page(
+// The page of a kernel, of which the tasks are listed into these rows.
+pub fn page_of(
     kernel: &Kernel<Started>,
     rows: &mut [Listed],
     heap: Global,
 ) -> Result<String, AllocError>
-    ensures { IfOk result (λ s. string_bytes s ≡ page_text (state kernel.now) rows.old) }
+    ensures text { IfOk result (λ s. string_bytes s ≡ page_text (state kernel.now) rows.old) }
+    ensures rows { rows.new ≡ listed (state kernel.now) rows.old }
 {
     let mut page = String::new(heap);
     add_listing(&mut page, kernel, rows)?;
     add_packets(&mut page, kernel)?;
     Ok(page)
+}
+
+// The page of the kernel that a script leaves.
+pub fn shown(bytes: &[u8], rows: &mut [Listed], heap: Global) -> Result<String, AllocError>
+    ensures text { IfOk result (λ s. string_bytes s ≡ page_text (after opening (parsed bytes.now).0) rows.old) }
+    ensures rows { OnOk result (rows.new ≡ listed (after opening (parsed bytes.now).0) rows.old) }
+    ensures law { OnOk result (Lawfully (parsed bytes.now).0 (after opening (parsed bytes.now).0)) }
+{
+    let kernel = kernel_after(bytes, heap)?;
+    page_of(&kernel, rows, heap)
 }

@@ -1,7 +1,7 @@
 use Rattle.std.proofs.Common.{◌≡◌, ◌++◌, ◌-◌, ◌<◌, string_bytes}
 use Rattle.kernel.specs.View.{state}
 use Rattle.show.specs.Shown.{packet_lines}
-use Rattle.show.proofs.page.add_packets.Given as goal
+use Rattle.show.proofs.pages.add_packets.Given as goal
 
 -- the lines of the packets before n
 abbrev pub invariant-loop-n : goal.invariant-loop-n
